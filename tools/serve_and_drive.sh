@@ -5,12 +5,11 @@ set -eu
 . "$(dirname "$0")/built_lockd.sh"
 "$program" serve "$work/socket" --workers 4 > "$work/trace" &
 server=$!
-for _ in $(seq 100); do
-  [ ! -S "$work/socket" ] || break
+# Linux lists the socket with this flag once the server listens. Its file is there a moment before.
+until grep -q " 00010000 .* $work/socket\$" /proc/net/unix; do
+  kill -0 "$server" 2> /dev/null || exit 1
   sleep 0.1
 done
-# The file is there a moment before the server listens.
-sleep 0.1
 "$program" drive "$work/socket" < examples/two_locks_driven.txt
 wait "$server"
 "$program" check < "$work/trace"

@@ -5,6 +5,7 @@ A message's layout is that of `fuse.h` (protocol 7.31).
 import os
 import re
 import resource
+import select
 import signal
 import socket
 import struct
@@ -16,7 +17,7 @@ import weakref
 
 TOP = os.path.dirname(os.path.dirname(os.path.realpath(__file__)))
 PROGRAM = os.path.realpath(os.environ.get("LOCKD", f"{TOP}/crates/lockd/out/lockd"))
-PATIENCE = 20
+PATIENCE = 60
 NOT_TRIED = 77
 
 
@@ -89,6 +90,13 @@ def wait_until(is_so):
         time.sleep(0.01)
 
 
+def is_listening(path):
+    """Whether a server listens at the path. Linux lists its socket with this flag then; the socket's file is there a moment before."""
+    with open("/proc/net/unix", "rb") as file:
+        rows = [line.split(maxsplit=7) for line in file]
+    return any(row[3] == b"00010000" and row[7:] == [os.fsencode(path) + b"\n"] for row in rows)
+
+
 def run(*words, text=b"", **how):
     return subprocess.run([PROGRAM, *words], input=text, capture_output=True, timeout=PATIENCE, **how)
 
@@ -97,6 +105,15 @@ def peak(process):
     """The most memory that it has had so far, in kilobytes. What `wait4` says of it would count this script too, which it was started from."""
     with open(f"/proc/{process.pid}/status", encoding="ascii") as file:
         return next(int(line.split()[1]) for line in file if line.startswith("VmHWM:"))
+
+
+def states_of(process):
+    """The states of its threads, each by one letter: `S` sleeps until something comes."""
+    folder, found = f"/proc/{process.pid}/task", set()
+    for it in os.listdir(folder):
+        with open(f"{folder}/{it}/stat", encoding="ascii") as file:
+            found.add(file.read().rsplit(")", 1)[1].split()[0])
+    return found
 
 
 def limited(most_bytes):
@@ -153,9 +170,8 @@ class Server:
         weakref.finalize(self, self.serving.kill)
 
     def listens(self):
-        """Waits until it does: its file is there a moment before."""
-        wait_until(lambda: os.path.exists(self.path) or self.serving.poll() is not None)
-        time.sleep(0.1)
+        """Waits until it does, or has ended."""
+        wait_until(lambda: is_listening(self.path) or self.serving.poll() is not None)
 
     def connect(self):
         """A connection, once it listens."""
@@ -188,6 +204,13 @@ class Server:
         """What it printed, what it told, and its status."""
         printed, told = self.serving.communicate(timeout=PATIENCE)
         return printed, told.decode(), self.serving.returncode
+
+    def tells(self, count=1):
+        """What it tells next, once that has so many lines, or less at its end."""
+        told, fd = b"", self.serving.stderr.fileno()
+        while told.count(b"\n") < count and select.select([fd], [], [], PATIENCE)[0] and (more := os.read(fd, 4096)):
+            told += more
+        return told.decode()
 
     def traced(self):
         with open(self.file, "rb") as file:

@@ -203,15 +203,6 @@ def is_accepting(server):
         return file.read().split()[0] in ("43", "288")
 
 
-def states_of(server):
-    folder = f"/proc/{server.serving.pid}/task"
-    found = set()
-    for it in os.listdir(folder):
-        with open(f"{folder}/{it}/stat", encoding="ascii") as file:
-            found.add(file.read().rsplit(")", 1)[1].split()[0])
-    return found
-
-
 # ---- ends of a session
 
 SET = "ask 5 2 0 0 0 setlk 1 9 5 5 1 11 0\ntell 5 ok\n"
@@ -259,8 +250,8 @@ def reads_no_more(behind=b""):
 def closes_before_it_is_answered(server, client):
     """The server is stopped while the client sends a lock and closes. So no reply is unread, and that to the lock can't be written."""
     server.serving.send_signal(signal.SIGSTOP)
-    tries.wait_until(lambda: states_of(server) == {"T"})
-    assert states_of(server) == {"T"}, "the server doesn't stand still"
+    tries.wait_until(lambda: tries.states_of(server.serving) == {"T"})
+    assert tries.states_of(server.serving) == {"T"}, "the server doesn't stand still"
     client.send(FIFTH)
     client.socket.close()
     server.serving.send_signal(signal.SIGCONT)

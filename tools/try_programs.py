@@ -7,7 +7,7 @@ folder, whether another one is there.
 import os, shutil, socket, subprocess, sys, threading, time
 from try_mount_kit import *
 
-AT_ONCE_HERE, ROUNDS, LONGEST = 3, 2, 15
+AT_ONCE_HERE, ROUNDS, LONGEST = 3, 2, 60
 PROGRAMS_AT_A_TIME = 6
 
 # Each: what has to be installed (a command, or `python:`, `perl:`, `lua:`, `node:` and a module), on which folders it works
@@ -104,7 +104,7 @@ class Ground:
 
 def contended(entry, name, folder):
     """How an entry goes in a folder: `works`, `fails`, or `breaks` where two were inside at once."""
-    ground = Ground(folder)
+    ground = GROUNDS[name, folder]
     lock = f"{folder}/{''.join(it for it in name if it.isalnum())}"
     command = entry[2].replace("<inside>", ground.inside).replace("<lock>", lock).replace("<folder>", folder)
     first, _, tried_again = command.rpartition("? ")
@@ -135,11 +135,21 @@ def contended(entry, name, folder):
 # ---- Those that take another shape ----
 
 def ping_pong(folder):
-    """Two of them pass a lock to and fro, for a second."""
-    running = [subprocess.Popen(["timeout", "1.2", "ping_pong", f"{folder}/ping_pong", "3"], stdout=subprocess.PIPE, stderr=subprocess.STDOUT, text=True) for _ in range(2)]
+    """Two of them pass a lock to and fro, for some seconds."""
+    running = [subprocess.Popen(["timeout", "4", "ping_pong", f"{folder}/ping_pong", "3"], stdout=subprocess.PIPE, stderr=subprocess.STDOUT, text=True) for _ in range(2)]
     said = [it.communicate(timeout=LONGEST)[0] for it in running]
     rates = [max([int(word) for word in it.replace("\r", " ").split() if word.isdigit()], default=0) for it in said]
     return "works" if min(rates) > 10 else "fails"
+
+
+def within(seconds, holds):
+    """Whether it holds once, within so many seconds."""
+    last = time.monotonic() + seconds
+    while not holds():
+        if time.monotonic() > last:
+            return False
+        time.sleep(0.02)
+    return True
 
 
 def free_port():
@@ -163,6 +173,11 @@ def rsync(folder):
         stream.flush()
         return it, stream.readline()
 
+    def is_served():
+        it, said = asked()
+        it.close()
+        return "OK" in said
+
     def is_up():
         try:
             socket.create_connection(("127.0.0.1", port)).close()
@@ -176,14 +191,11 @@ def rsync(folder):
         second, refused = asked()
         second.close()
         first.close()
-        went = [said, refused]
-        time.sleep(0.3)
-        third, again = asked()
-        third.close()
+        comes_free = within(LONGEST, is_served)
     finally:
         serving.kill()
         serving.wait()
-    return "works" if "OK" in went[0] and "max connections" in went[1] and "OK" in again else "fails"
+    return "works" if "OK" in said and "max connections" in refused and comes_free else "fails"
 
 
 def dpkg(folder):
@@ -215,18 +227,24 @@ def lvm(folder):
     holder.ask("flock", "a", ALONE)
     held = subprocess.run(ask, capture_output=True, text=True, timeout=LONGEST)
     holder.kill()
-    time.sleep(0.1)
-    free = subprocess.run(ask, capture_output=True, text=True, timeout=LONGEST)
-    return "works" if held.returncode and not free.returncode else "fails"
+    # Nobody waits until the file is closed.
+    comes_free = within(LONGEST, lambda: not subprocess.run(ask, capture_output=True, timeout=LONGEST).returncode)
+    return "works" if held.returncode and comes_free else "fails"
 
 
 def start_stop_daemon(folder):
     """The second start has to see the first one's pid."""
-    begin = ["start-stop-daemon", "--start", "--quiet", "--background", "--make-pidfile", "--pidfile", f"{folder}/ssd.pid", "--exec", "/bin/sleep", "--", "2"]
+    begin = ["start-stop-daemon", "--start", "--quiet", "--background", "--make-pidfile", "--pidfile", f"{folder}/ssd.pid", "--exec", "/bin/sleep", "--", "300"]
     statuses = []
+
+    def is_begun():
+        """The process whose number is in the file is the one that was to begin."""
+        pid = outcome(lambda: open(f"{folder}/ssd.pid", encoding="ascii").read().strip())
+        return pid.isdigit() and os.path.basename(outcome(os.readlink, f"/proc/{pid}/exe")) == "sleep"
+
     for _ in range(2):
         statuses.append(subprocess.run(begin, capture_output=True, cwd="/").returncode)
-        time.sleep(0.3)
+        within(LONGEST if works_on(CANNOT, folder) else 0.3, is_begun)
     found = subprocess.run(["start-stop-daemon", "--status", "--pidfile", f"{folder}/ssd.pid"], capture_output=True).returncode
     return "works" if statuses == [0, 1] and found == 0 else "breaks" if statuses == [0, 0] else "fails"
 
@@ -251,6 +269,8 @@ FOR_ROOT = "dpkg", "lvm"
 # ---- All of it ----
 
 FOLDERS = {}
+# They are made before any thread starts a program: no program can be run that another one, just forked, has open to be written.
+GROUNDS = {}
 
 
 def works_on(where, folder):
@@ -303,6 +323,7 @@ def main():
     mounts = [Mount("--trace", "none"), Mount("--trace", "none", "--discard-writes")]
     FOLDERS.update({"mount": mounts[0].folder, "discards": mounts[1].folder, "memory": tempfile.mkdtemp(dir="/dev/shm")})
     results, lock, left = {}, threading.Lock(), [it for it in every if it not in missing]
+    GROUNDS.update(((name, folder), Ground(folder)) for name in left if not callable(every[name][2]) for folder in FOLDERS.values())
 
     def work():
         while True:

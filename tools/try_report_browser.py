@@ -1,5 +1,6 @@
 """A page in a headless Chromium, which is told what to do through a pipe, and what stands on its console."""
 import base64
+import contextlib
 import json
 import os
 import select
@@ -9,7 +10,7 @@ import tempfile
 import time
 
 PROGRAM = shutil.which("chromium") or shutil.which("chromium-browser")
-PATIENCE = 20
+PATIENCE = 60
 WORDS = "--headless", "--no-sandbox", "--disable-gpu", "--hide-scrollbars", "--force-color-profile=srgb", "--no-first-run", "--disable-background-networking", \
     "--remote-debugging-pipe"
 
@@ -44,7 +45,9 @@ class Browser:
             self.running.kill()
             self.running.wait()
         os.close(self.back)
-        self.folder.cleanup()
+        # A process of Chromium's may still write there.
+        with contextlib.suppress(OSError):
+            self.folder.cleanup()
 
     def message(self):
         last = time.monotonic() + PATIENCE

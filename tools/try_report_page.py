@@ -1,7 +1,7 @@
 """Tries of the page that tools/lockd_report writes: what it has, and what it does in a browser."""
 import re
+import resource
 import tempfile
-import time
 
 from report.page import page
 from report.session import follow
@@ -10,7 +10,9 @@ from try_report_browser import PROGRAM, Browser
 from try_report_kit import *
 from tries import TOP, run, text_of
 
-ORDERS, MOST_BYTES, SECONDS = 100_000, 6_000_000, 30
+ORDERS, MOST_BYTES = 100_000, 6_000_000
+# Of a processor, which other programs may have meanwhile.
+SECONDS = 30
 PICTURES = (("waiting", ()), ("waiting_fair", ("--fair",)))
 
 
@@ -27,10 +29,16 @@ def try_a_page_of_its_own():
     page("", read_trace(b""), follow(read_trace(b"")), None)
 
 
+def used():
+    """Seconds of a processor that programs took which this one has started, and which ended."""
+    found = resource.getrusage(resource.RUSAGE_CHILDREN)
+    return found.ru_utime + found.ru_stime
+
+
 def try_a_hundred_thousand_orders():
     same(run("check", text=busy_trace(1500)).stdout, b"legal\n")
-    begun, ran = time.monotonic(), reported(text=busy_trace(ORDERS))
-    took, size = time.monotonic() - begun, len(ran.stdout)
+    begun, ran = used(), reported(text=busy_trace(ORDERS))
+    took, size = used() - begun, len(ran.stdout)
     same((ran.stderr, ran.returncode), (b"", 0))
     assert size < MOST_BYTES and took < SECONDS, (size, took)
     return f"passed, {size / 1e6:.1f} MB in {took:.1f} s"
@@ -126,8 +134,10 @@ def try_moving_and_zooming(browser, written, _):
     for kind, by in ("mousePressed", 0), ("mouseMoved", 100), ("mouseReleased", 100):
         browser.point(x + by, y, kind, button="left", buttons=1, clickCount=1)
     assert says(browser) != before, before
-    took = browser.tell("(() => { const begun = performance.now(); document.getElementById('whole').click();"
-                        " return new Promise(done => requestAnimationFrame(() => requestAnimationFrame(() => done(performance.now() - begun)))); })()")
+    # Other programs may have the processors for a while.
+    took = min(browser.tell("(() => { const begun = performance.now(); document.getElementById('whole').click();"
+                            " return new Promise(done => requestAnimationFrame(() => requestAnimationFrame(() => done(performance.now() - begun)))); })()")
+               for _ in range(3))
     assert took < 5000, took
     browser.tell("document.getElementById('lanes').scrollTop = 3000")
     browser.settle()
