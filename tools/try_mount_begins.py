@@ -142,7 +142,7 @@ def try_a_folder_that_is_mounted_already():
     again = Mount(folder=mount.folder)
     contains(refusal(folder=beside), "an earlier mount")
     same(again.end(), (0, "legal"))
-    subprocess.run(["umount", beside], check=True, timeout=PATIENCE)
+    unmount(beside)
 
 
 def try_two_begin_at_once():

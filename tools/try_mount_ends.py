@@ -153,7 +153,7 @@ def try_a_mount_kept_in_another_namespace_keeps_others_out():
     inside = subprocess.Popen(["unshare", "--mount", "--propagation", "private", "sh", "-c", f"exec 9> {mount.folder}/held; flock 9; echo in; read end"],
                               stdin=subprocess.PIPE, stdout=subprocess.PIPE, text=True)
     same(inside.stdout.readline(), "in\n")
-    subprocess.run(["umount", mount.folder], timeout=PATIENCE, check=True)
+    unmount(mount.folder)
     same((mount.running.poll(), mount.is_mounted()), (None, False))
     contains(refusal(folder=mount.folder), "an earlier mount")
     inside.communicate("end\n", timeout=PATIENCE)
@@ -218,8 +218,6 @@ def try_the_server_is_killed_while_processes_wait():
 def try_the_server_is_killed_without_open_files():
     mount = Mount()
     shell(mount, "flock job echo in", "in")
-    # The answer to this comes behind that to the RELEASE, for which no process waits.
-    assert not os.path.exists(f"{mount.folder}/other")
     same(mount.end(lambda: os.kill(mount.server(), signal.SIGKILL))[0], 1)
     assert not mount.is_mounted()
 

@@ -49,7 +49,8 @@ class Mount:
         if how:
             how()
         else:
-            subprocess.run([*UMOUNT, self.folder], timeout=PATIENCE)
+            has_closed_files(self.folder)
+            unmount(self.folder)
         status = self.running.wait(timeout=PATIENCE)
         return status, self.output().splitlines()[-1]
 
@@ -94,7 +95,26 @@ def is_mounted(folder):
         return any(line.split()[4] == folder for line in it)
 
 
-def refusal(*words, folder=None, seconds=9, program=PROGRAM, **env):
+def has_closed_files(folder):
+    """Waits until the carrier has the RELEASE of each file that was closed so far. No process waits for one, but it goes before other messages."""
+    outcome(os.stat, f"{folder}/missing")
+
+
+def unmount(folder):
+    """As `umount` does, and again while the folder is busy: each carrier that looks for open files goes through those of all mounts."""
+    until(lambda: not subprocess.run([*UMOUNT, folder], capture_output=True, timeout=PATIENCE).returncode or not is_mounted(folder))
+
+
+def soon(seconds, function):
+    """The function says what it gives, and in how many seconds. One of three times these are less: other programs may keep the processors for a while."""
+    for _ in range(3):
+        found, took = function()
+        if took < seconds:
+            return found
+    raise AssertionError(f"it takes {took} seconds")
+
+
+def refusal(*words, folder=None, program=PROGRAM, **env):
     """What lockd_mount says where it mounts nothing, which has to be soon."""
     begun = time.monotonic()
     ran = subprocess.run([program, *words, *([folder] if folder else [])], capture_output=True, text=True, timeout=PATIENCE,
@@ -237,6 +257,24 @@ def shell(mount, script, wanted, status=0):
     ran = subprocess.run(["sh", "-c", script], cwd=mount.folder, stdout=subprocess.PIPE, stderr=subprocess.STDOUT, text=True,
                          timeout=PATIENCE, stdin=subprocess.DEVNULL)
     same((ran.stdout.split(), ran.returncode), (wanted.split(), status))
+    has_closed_files(mount.folder)
+
+
+def stop(*pids):
+    """Stops processes, and waits until each of their threads stands still."""
+    for pid in pids:
+        os.kill(pid, signal.SIGSTOP)
+    for pid in pids:
+        until(lambda: {state_of(f"/proc/{pid}/task/{it}") for it in os.listdir(f"/proc/{pid}/task")} == {"T"})
+
+
+def state_of(folder):
+    """The state of a thread or a process by its folder in /proc, or `X` where it is gone."""
+    try:
+        with open(f"{folder}/stat", encoding="ascii") as it:
+            return it.read().rpartition(")")[2].split()[0]
+    except OSError:
+        return "X"
 
 
 def as_user(script, *words):

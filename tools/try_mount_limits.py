@@ -187,7 +187,7 @@ def try_a_full_trace_is_said_while_it_runs():
     status, _ = mount.end()
     assert status == 3
     mount.says("trace failed", "the server ended with status 2")
-    subprocess.run(["umount", disk], check=True, timeout=PATIENCE)
+    unmount(disk)
 
 
 def try_a_full_trace_may_refuse_locks():
@@ -203,7 +203,7 @@ def try_a_full_trace_may_refuse_locks():
     shell(mount, "flock -n job echo in", "in")
     os.close(fd)
     same(mount.end(), (0, "legal"))
-    subprocess.run(["umount", disk], check=True, timeout=PATIENCE)
+    unmount(disk)
 
 
 def try_a_limit_of_a_file_ends_no_server():

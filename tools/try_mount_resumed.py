@@ -542,7 +542,7 @@ def try_calls_wait_while_the_disk_is_full():
     one.kill()
     same(mount.end(), (0, "legal"))
     asked_once(mount.lines())
-    subprocess.run(["umount", disk], check=True, timeout=PATIENCE)
+    unmount(disk)
 
 
 def try_a_full_disk_may_end_it():

@@ -71,4 +71,4 @@ def try_times_on_a_full_disk():
     mount.says(f"times are no longer written to {small}/times: No space left on device")
     same(mount.output().count("no longer"), 1)
     read_times(bytes_of(f"{small}/times"))
-    subprocess.run(["umount", small], check=True, timeout=PATIENCE)
+    unmount(small)
