@@ -441,17 +441,19 @@ def try_a_program_that_is_gone():
 
 
 def try_term_while_the_server_is_started():
-    gate = Gate()
-    mount = Resumed(**gate.words)
-    one, two = held_and_waited_for(mount)
-    gate.shut()
-    os.kill(mount.server(), signal.SIGKILL)
-    until(lambda: "and is started again" in mount.output())
-    begun = time.monotonic()
-    mount.term()
-    same(two.answer(), "ECONNABORTED")
-    until(lambda: mount.running.poll() is not None or "their locks are lost" in mount.output())
-    assert time.monotonic() - begun < 5
+    def ends():
+        gate = Gate()
+        mount = Resumed(**gate.words)
+        one, two = held_and_waited_for(mount)
+        gate.shut()
+        os.kill(mount.server(), signal.SIGKILL)
+        until(lambda: "and is started again" in mount.output())
+        begun = time.monotonic()
+        mount.term()
+        same(two.answer(), "ECONNABORTED")
+        until(lambda: mount.running.poll() is not None or "their locks are lost" in mount.output())
+        return (gate, mount, one, two), time.monotonic() - begun
+    gate, mount, one, two = soon(5, ends)
     gate.open()
     same(mount.end(lambda: None), (4, "legal"))
     same(mount.servers(), [])
