@@ -234,7 +234,7 @@ def try_the_carrier_is_killed():
     server = mount.server()
     same(mount.end(lambda: mount.running.kill())[0], -signal.SIGKILL)
     same(two.answer(), "ECONNABORTED")
-    until(lambda: not os.path.exists(f"/proc/{server}") or "Z" in open(f"/proc/{server}/stat", encoding="ascii").read())
+    until(lambda: state_of(f"/proc/{server}") in "XZ")
     lock_fails(mount.folder)
     contains(refusal(folder=mount.folder), "an earlier mount", str(one.pid))
     # Where the dead mount is taken away by hand, they still think that they hold it.
@@ -305,7 +305,7 @@ def try_a_server_that_stands_still_loses_nothing():
         said[at] = outcome(fcntl.flock, fds[at], SHARED | AT_ONCE)
 
     threads = [threading.Thread(target=lock, args=(at,), daemon=True) for at in range(len(fds))]
-    os.kill(serving, signal.SIGSTOP)
+    stop(serving)
     try:
         for it in threads:
             it.start()

@@ -87,8 +87,8 @@ def kill_at_random(mount, chance, is_over):
         before = mount.count()
         time.sleep(chance.choice((0.003, 0.03, 0.3)) * chance.random())
         for pid in mount.servers():
-            os.kill(pid, signal.SIGKILL)
-            killed += 1
+            # One that was killed before may just be gone.
+            killed += outcome(os.kill, pid, signal.SIGKILL) is None
         if chance.random() < 0.8:
             mount.goes_on(before + 1)
     return killed
@@ -248,8 +248,7 @@ def try_messages_that_the_server_had_not_read():
     (three,) = children(f"{mount.folder}/held", 1)
     gone, closed, locked = [unnamed(mount.folder, f"gone{at}") for at in range(5)], mapped(mount.folder, "closed"), mapped(mount.folder, "locked", locks=True)
     server = mount.server()
-    for it in server, mount.running.pid:
-        os.kill(it, signal.SIGSTOP)
+    stop(server, mount.running.pid)
     for it in gone:
         os.close(it)
     LIBC.munmap(closed, 4096)
@@ -261,7 +260,7 @@ def try_messages_that_the_server_had_not_read():
     same(two.answer(), "EINTR")
     assert three.waits()
     server = mount.server()
-    os.kill(server, signal.SIGSTOP)
+    stop(server)
     LIBC.munmap(locked, 4096)
     one.begin("flock", "a", NOT_HELD)
     assert one.waits()
