@@ -2,7 +2,7 @@
 
 A `Child` is another process, which opens and locks files where it is told to. Each wait has an end, by `PATIENCE`.
 """
-import errno, fcntl, os, shutil, signal, struct, subprocess, sys, tempfile, time
+import errno, fcntl, os, re, shutil, signal, struct, subprocess, sys, tempfile, time
 from multiprocessing import Pipe
 
 TOP = os.path.dirname(os.path.dirname(os.path.abspath(__file__)))
@@ -24,7 +24,7 @@ class Mount:
         self.folder = folder or tempfile.mkdtemp(dir=WORK)
         if not folder:
             os.chmod(self.folder, mode)
-        self.said = tempfile.TemporaryFile("w+", dir=WORK)
+        self.words, self.said = words, tempfile.TemporaryFile("w+", dir=WORK)
         self.running = subprocess.Popen([program, *words, "--", self.folder], stdout=self.said, stderr=subprocess.STDOUT,
                                         env={**os.environ, "TMPDIR": WORK, **env})
         until(lambda: "mounted at" in self.output() or self.running.poll() is not None)
@@ -59,6 +59,15 @@ class Mount:
 
     def is_mounted(self):
         return is_mounted(self.folder)
+
+    def lets_wait(self, child):
+        """Whether the last order of a process in the trace is one that waits. Several workers take orders in any order, also after `Child.waits`."""
+        trace = self.words[self.words.index("--trace") + 1] if "--trace" in self.words else re.search("its trace is (.*)\n", self.output())[1]
+        with open(trace, "rb") as it:
+            lines = [line.split() for line in it.read().split(b"\n")[:-1]]
+        told = {line[1] for line in lines if line[0] == b"tell"}
+        asked = [line for line in lines if line[0] == b"ask" and int(line[6]) == child.pid]
+        return bool(asked) and asked[-1][7] == b"setlkw" and asked[-1][2] not in told
 
 
 def abort(mount):

@@ -138,6 +138,7 @@ def deadlock(mount, count):
     for at, child in enumerate(circle[:-1]):
         child.begin("record", "a", WRITE, at + 1, 1, True)
         assert child.waits()
+        until(lambda: mount.lets_wait(child))
     same(circle[-1].ask("record", "a", WRITE, 0, 1, True), "EDEADLK")
     for child, before in zip(circle[::-1], circle[-2::-1]):
         same(child.ask("record", "a", UNLOCK), "ok")

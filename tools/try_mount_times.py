@@ -17,6 +17,7 @@ def waited_for(mount):
         same(one.ask(kind, "a", lock), "ok")
         two.begin(kind, "a", lock, *((0, 0, True) if kind == "record" else ()))
         assert two.waits()
+        until(lambda: mount.lets_wait(two))
         time.sleep(0.1)
         same([one.ask(kind, "a", unlock), two.answer()], ["ok", "ok"])
         one.kill()
