@@ -318,7 +318,7 @@ def try_a_server_that_stands_still_loses_nothing():
     same(said, [None] * len(fds))
     for fd in fds[1:]:
         os.close(fd)
-    shell(mount, f"flock -n {path} echo in || echo held; flock -s -w 10 {path} echo both", "held both")
+    shell(mount, f"flock -n {path} echo in || echo held; flock -s -w {PATIENCE} {path} echo both", "held both")
     os.close(fds[0])
-    shell(mount, f"flock -w 10 {path} echo in", "in")
+    shell(mount, f"flock -w {PATIENCE} {path} echo in", "in")
     same(mount.end(), (0, "legal"))

@@ -95,7 +95,7 @@ def try_1024_open_files(mount):
     same((fd, len(held)), ("ENFILE", 1024))
     for fd in held:
         os.close(fd)
-    shell(mount, "flock -w 10 opened echo in", "in")
+    shell(mount, f"flock -w {PATIENCE} opened echo in", "in")
 
 
 def try_no_more_locks_than_runs():

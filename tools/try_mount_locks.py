@@ -15,7 +15,8 @@ def try_shell_opens_a_file_again_in_each_way(mount):
 
 
 def try_shell_flock_without_waiting(mount):
-    shell(mount, "flock job sh -c 'flock -n job echo in || echo $?'; flock -n job echo in", "1 in")
+    """Nobody waits until the first one's file is closed, and of several workers another one may take the next order."""
+    shell(mount, "flock job sh -c 'flock -n job echo in || echo $?'; until flock -n job echo in; do sleep 0.01; done", "1 in")
 
 
 def try_shell_shared_locks(mount):
@@ -24,16 +25,16 @@ def try_shell_shared_locks(mount):
 
 def try_shell_flock_with_a_time(mount):
     shell(mount, "flock timed sh -c 'flock -w 0.3 timed echo in || echo late'; (flock timed sleep 0.5) & sleep 0.1; "
-                 "flock -w 10 timed echo in; wait", "late in")
+                 f"flock -w {PATIENCE} timed echo in; wait", "late in")
 
 
 def try_shell_lock_goes_with_an_exit(mount):
-    shell(mount, "sh -c 'exec 9>gone; flock 9; exit 3'; echo $?; flock -w 10 gone echo free", "3 free")
+    shell(mount, "sh -c 'exec 9>gone; flock 9; exit 3'; echo $?; flock -w 60 gone echo free", "3 free")
 
 
 def try_shell_lock_goes_with_a_killed_process(mount):
-    shell(mount, "sh -c 'exec 9>gone; flock 9; exec sleep 100' & sleep 0.3; flock -n gone echo in || echo held; "
-                 "kill -9 $!; wait $! 2> /dev/null; flock -w 10 gone echo free", "held free")
+    shell(mount, "sh -c 'exec 9>gone; flock 9; exec sleep 100' & while flock -n gone true; do sleep 0.01; done; echo held; "
+                 "kill -9 $!; wait $! 2> /dev/null; flock -w 60 gone echo free", "held free")
 
 
 def try_shell_twenty_count_under_flock(mount, folder=None):
