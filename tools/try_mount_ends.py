@@ -17,8 +17,9 @@ def lock_fails(folder, error="ENOTCONN"):
     same(outcome(os.open, f"{folder}/held", os.O_RDWR | os.O_CREAT), error)
 
 
-def mounts_again(folder, *words):
-    mount = Mount(*words, folder=folder)
+def mounts_again(folder):
+    """What was mounted there is over in a moment."""
+    mount = Mount("--grace", str(PATIENCE), folder=folder)
     shell(mount, "flock -n held echo in", "in")
     same(mount.end(), (0, "legal"))
 
@@ -63,11 +64,11 @@ def try_term_with_open_files_ends_it_and_says_of_whom():
 
 
 def try_term_waits_for_open_files():
-    mount = Mount("--grace", "15")
+    mount = Mount("--grace", str(PATIENCE))
     (one,) = children(f"{mount.folder}/held", 1)
     same(one.ask("flock", "a", ALONE), "ok")
     mount.term()
-    until(lambda: "waiting 15 seconds" in mount.output())
+    until(lambda: f"waiting {PATIENCE} seconds" in mount.output())
     time.sleep(0.2)
     same((mount.running.poll(), one.ask("flock", "a", SHARED), one.ask("close", "a")), (None, "ok", "ok"))
     same(mount.end(lambda: None), (0, "legal"))
@@ -128,7 +129,7 @@ def try_a_lazy_umount_keeps_others_out_while_files_are_open():
     subprocess.run(["umount", "-l", mount.folder], timeout=PATIENCE, check=True)
     assert two.waits() and not mount.is_mounted()
     contains(refusal(folder=mount.folder), "an earlier mount", "still serves open files")
-    waiting = subprocess.Popen([PROGRAM, "--grace", "15", "--trace", "none", mount.folder], stdout=subprocess.PIPE, stderr=subprocess.DEVNULL, text=True)
+    waiting = subprocess.Popen([PROGRAM, "--grace", str(PATIENCE), "--trace", "none", mount.folder], stdout=subprocess.PIPE, stderr=subprocess.DEVNULL, text=True)
     time.sleep(0.3)
     same((waiting.poll(), is_mounted(mount.folder)), (None, False))
     same([one.ask("close", "a"), two.answer()], ["ok", "ok"])
@@ -164,7 +165,7 @@ def try_a_mount_kept_in_another_namespace_keeps_others_out():
     contains(refusal(folder=mount.folder), "an earlier mount")
     inside.communicate("end\n", timeout=PATIENCE)
     same(mount.end(lambda: None), (0, "legal"))
-    mounts_again(mount.folder, "--grace", "9")
+    mounts_again(mount.folder)
 
 
 def try_term_where_another_namespace_has_it_mounted():
@@ -187,8 +188,7 @@ def try_a_container_keeps_a_dead_mount_at_another_path():
     subprocess.run(["umount", "-l", mount.folder], timeout=PATIENCE, check=True)
     contains(refusal(folder=mount.folder), "an earlier mount", str(inside.pid))
     inside.communicate("end\n", timeout=PATIENCE)
-    # The kernel ends the container's mounts in a moment.
-    mounts_again(mount.folder, "--grace", "9")
+    mounts_again(mount.folder)
 
 
 def try_a_container_with_a_dead_mount_and_no_open_file_keeps_nobody_out():
@@ -243,7 +243,7 @@ def try_the_carrier_is_killed():
     one.kill()
     begun = time.monotonic()
     threading.Timer(0.5, two.kill).start()
-    mounts_again(mount.folder, "--grace", "10")
+    mounts_again(mount.folder)
     assert time.monotonic() - begun > 0.4
 
 

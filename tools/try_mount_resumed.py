@@ -4,7 +4,7 @@ import ctypes, mmap, os, random, select, signal, struct, subprocess, sys, tempfi
 from collections import Counter
 from report.times import read_times
 from report.trace import read_trace
-from try_mount_ends import held_and_waited_for
+from try_mount_ends import held_and_waited_for, mounts_again
 from try_mount_kit import *
 
 KILLS = int(os.environ.get("TRY_MOUNT_KILLS", 10))
@@ -406,8 +406,7 @@ def lost(mount, one, two, status, *said):
     same(outcome(os.open, f"{mount.folder}/held", os.O_RDWR), "ENOTCONN")
     for it in one, two:
         it.kill()
-    again = Mount(folder=mount.folder)
-    same(again.end(), (0, "legal"))
+    mounts_again(mount.folder)
 
 
 def try_six_kills_within_a_minute():
@@ -462,7 +461,7 @@ def try_term_while_the_server_is_started():
 
 def try_term_waits_for_a_server_that_open_files_need():
     gate = Gate()
-    mount = Resumed("--grace", "30", **gate.words)
+    mount = Resumed("--grace", str(PATIENCE), **gate.words)
     (one,) = children(f"{mount.folder}/held", 1)
     same(one.ask("flock", "a", ALONE), "ok")
     gate.shut()
@@ -471,7 +470,7 @@ def try_term_waits_for_a_server_that_open_files_need():
     mount.term()
     time.sleep(0.3)
     gate.open()
-    until(lambda: "waiting 30 seconds" in mount.output())
+    until(lambda: f"waiting {PATIENCE} seconds" in mount.output())
     os.kill(mount.server(), signal.SIGKILL)
     mount.goes_on(2)
     same(one.ask("close", "a"), "ok")
