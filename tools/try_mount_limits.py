@@ -171,8 +171,8 @@ def try_a_trace_that_goes_nowhere():
     same((status, said.startswith("trace: ")), (0, True))
 
 
-def lock_for_a_while(mount, seconds):
-    last = time.monotonic() + seconds
+def lock_for_a_while(mount):
+    last = time.monotonic() + PATIENCE
     while time.monotonic() < last and "doesn't grow" not in mount.output():
         shell(mount, "for one in 1 2 3 4 5 6 7 8 9; do flock job true; done", "")
         time.sleep(0.2)
@@ -182,7 +182,7 @@ def try_a_full_trace_is_said_while_it_runs():
     disk = tempfile.mkdtemp(dir=WORK)
     subprocess.run(["mount", "-t", "tmpfs", "-o", "size=4k", "none", disk], check=True, timeout=PATIENCE)
     mount = Mount("--trace", f"{disk}/trace")
-    lock_for_a_while(mount, 19)
+    lock_for_a_while(mount)
     mount.says("doesn't grow")
     status, _ = mount.end()
     assert status == 3

@@ -55,7 +55,7 @@ def try_twenty_count_under_fcntl(mount):
         pid = os.fork()
         if not pid:
             signal.signal(signal.SIGALRM, signal.SIG_DFL)
-            signal.alarm(PATIENCE)
+            signal.alarm(9 * PATIENCE)
             fd = os.open(f"{mount.folder}/by_fcntl", os.O_RDWR | os.O_CREAT)
             for _ in range(50):
                 record(fd, WRITE, 5, 1, True)
@@ -187,6 +187,16 @@ def try_a_waiting_process_is_killed(mount):
 CELLS = 64
 
 
+def calls():
+    """The numbers of 5000 calls, or of as many as two minutes suffice for."""
+    last = time.monotonic() + 2 * PATIENCE
+    for call in range(5000):
+        if time.monotonic() > last:
+            print(f"{call} calls in {2 * PATIENCE} seconds, and not 5000", flush=True)
+            return
+        yield call
+
+
 class Model:
     """Which process holds which of the first bytes of each file, the last cell for all that follow: judges F_GETLK."""
 
@@ -221,7 +231,7 @@ def try_5000_random_calls_of_fcntl(mount):
     pids, held = [it.pid for it in team], set()
     told, others = 0, 0
     try:
-        for call in range(5000):
+        for call in calls():
             at, name = chance.randrange(4), chance.choice(["x", "y"])
             start = chance.randrange(CELLS)
             length = chance.choice([0, *range(1, 30)])
@@ -252,7 +262,7 @@ def try_5000_random_calls_of_fcntl(mount):
                 model.change(name, at, UNLOCK, range(CELLS + 1))
     finally:
         shutil.rmtree(memory)
-    assert told > 100
+    assert told > (call + 1) // 50, (told, call)
     print(f"fcntl: {told} times F_GETLK told a lock, {others} times another one than in memory, each rightly", flush=True)
 
 
@@ -263,7 +273,7 @@ def try_5000_random_calls_of_flock(mount):
     team = [Child() for _ in range(4)]
     files, lost = {}, 0
     try:
-        for call in range(5000):
+        for call in calls():
             at, name = chance.randrange(4), chance.choice(["x", "y", "x2", "y2"])
             kind = chance.choice([SHARED, SHARED, ALONE, NOT_HELD])
             if (at, name) not in files:

@@ -140,7 +140,7 @@ def try_a_server_that_is_killed_at_random_moments():
     same((ended, killed >= KILLS, held_at_the_end(mount, *rules)), ((0, "legal"), True, []))
 
 
-try_a_server_that_is_killed_at_random_moments.seconds = 120 + 4 * KILLS
+try_a_server_that_is_killed_at_random_moments.seconds = 5 * PATIENCE + 4 * KILLS
 
 
 # ---- Who waits ----
@@ -537,7 +537,7 @@ def try_calls_wait_while_the_disk_is_full():
     time.sleep(0.5)
     assert locking.is_alive() and mount.running.poll() is None, mount.output()
     os.unlink(f"{disk}/rest")
-    locking.join(PATIENCE)
+    locking.join(3 * PATIENCE)
     same((locking.is_alive(), outcome(shell, mount, "flock -n held true || echo held", "held")), (False, None))
     one.kill()
     same(mount.end(), (0, "legal"))
