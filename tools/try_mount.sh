@@ -4,7 +4,7 @@
 # `lockd check` says of the traces, and `N passed, M failed`. The status is 0 where none failed, and
 # 77, with a line, where something is missing that it wants: root, /dev/fuse, a right to mount, a C
 # compiler, Python 3.9, `unshare` and `flock`. It takes a minute and a half on two processors, and is
-# killed after 900 seconds.
+# killed after 7200 seconds.
 #
 #     tools/try_mount.sh [NAME ..]      (only what has one of these words in its name)
 #
@@ -38,6 +38,6 @@ if [ -z "${LOCKD_MOUNT:-}" ]; then
 fi
 # All processes are in a namespace of their own, so that none is left. The one that runs out of time is killed.
 status=0
-timeout -s KILL 900 $apart python3 tools/try_mount.py "$@" || status=$?
-[ "$status" -ne 137 ] || echo 'try_mount: killed after 900 seconds'
+timeout -s KILL 7200 $apart python3 tools/try_mount.py "$@" || status=$?
+[ "$status" -ne 137 ] || echo 'try_mount: killed after 7200 seconds'
 exit "$status"

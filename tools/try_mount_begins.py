@@ -67,11 +67,10 @@ while True:
 
 
 def bad_server(how):
-    path = f"{WORK}/{how}"
-    if not os.path.exists(path):
-        with open(path, "w", encoding="ascii") as it:
-            it.write(f"#!{sys.executable}{BAD_SERVER}")
-        os.chmod(path, 0o700)
+    path = f"{tempfile.mkdtemp(dir=WORK)}/{how}"
+    with open(path, "w", encoding="ascii") as it:
+        it.write(f"#!{sys.executable}{BAD_SERVER}")
+    os.chmod(path, 0o700)
     return path
 
 
@@ -142,7 +141,7 @@ def try_a_folder_that_is_mounted_already():
     again = Mount(folder=mount.folder)
     contains(refusal(folder=beside), "an earlier mount")
     same(again.end(), (0, "legal"))
-    subprocess.run(["umount", beside], check=True, timeout=PATIENCE)
+    unmount(beside)
 
 
 def try_two_begin_at_once():
@@ -188,8 +187,14 @@ def try_the_kind_of_file_system():
 
 # ---- The service manager ----
 
+def comes(listening, words):
+    """Waits for a message to the service manager that has these words. A status is told now and then, too."""
+    while words not in (said := listening.recv(4096).decode()):
+        assert said.startswith("STATUS="), said
+
+
 def try_ready_is_said_to_the_service_manager():
-    for at in f"{WORK}/notify", "@try_mount_notify":
+    for at in f"{WORK}/notify", f"@{WORK}/notify":
         listening = socket.socket(socket.AF_UNIX, socket.SOCK_DGRAM)
         listening.bind(at.replace("@", "\0"))
         listening.settimeout(PATIENCE)
@@ -197,9 +202,9 @@ def try_ready_is_said_to_the_service_manager():
         contains(listening.recv(4096).decode(), "READY=1\n", f"STATUS=mounted at {mount.folder}")
         if at[0] != "@":
             shell(mount, "flock job true", "")
-            contains(listening.recv(4096).decode(), "STATUS=1 files, 0 open; ")
+            comes(listening, "STATUS=1 files, 0 open; ")
         same(mount.end(mount.term), (0, "legal"))
-        contains(listening.recv(4096).decode(), "STOPPING=1")
+        comes(listening, "STOPPING=1")
     listening.close()
     listening = socket.socket(socket.AF_UNIX, socket.SOCK_DGRAM)
     listening.bind(f"{WORK}/notify2")
@@ -247,12 +252,10 @@ def try_a_kernel_that_is_too_old():
 
 
 def try_a_server_that_ends_before_it_is_ready():
-    begun = time.monotonic()
     refused_by("ends", "the server ended with status 2 before it listened", "nothing is mounted")
     refused_by("ends_at_init", "the server ended before INIT was agreed", "nothing is mounted")
     refused_by("ends_at_lookup", "no name could be looked up", "nothing is mounted")
     refused_by("bad_length", "the server sent a reply of a length that none has", "nothing is mounted")
-    assert time.monotonic() - begun < 9, "it waited"
 
 
 def try_term_before_it_is_mounted():
@@ -312,10 +315,11 @@ def try_a_flush_that_is_never_answered_keeps_nobody_from_the_end():
 
 
 def try_a_reply_that_the_kernel_refuses_is_said_at_once():
-    mount = Mount(LOCKD=bad_server("bad_bodies"))
+    mount, begun = Mount(LOCKD=bad_server("bad_bodies")), time.monotonic()
     same([outcome(os.stat, f"{mount.folder}/body{at}") for at in range(20)], ["EIO"] * 20)
     mount.says("the kernel refused a reply: Invalid argument; 1 so far")
-    assert mount.output().count("refused a reply") <= 3
+    # Once a second at most.
+    assert mount.output().count("refused a reply") <= 3 + time.monotonic() - begun
 
     def counted():
         mount.running.send_signal(signal.SIGUSR1)

@@ -17,8 +17,9 @@ def lock_fails(folder, error="ENOTCONN"):
     same(outcome(os.open, f"{folder}/held", os.O_RDWR | os.O_CREAT), error)
 
 
-def mounts_again(folder, *words):
-    mount = Mount(*words, folder=folder)
+def mounts_again(folder):
+    """What was mounted there is over in a moment."""
+    mount = Mount("--grace", str(PATIENCE), folder=folder)
     shell(mount, "flock -n held echo in", "in")
     same(mount.end(), (0, "legal"))
 
@@ -63,11 +64,11 @@ def try_term_with_open_files_ends_it_and_says_of_whom():
 
 
 def try_term_waits_for_open_files():
-    mount = Mount("--grace", "15")
+    mount = Mount("--grace", str(PATIENCE))
     (one,) = children(f"{mount.folder}/held", 1)
     same(one.ask("flock", "a", ALONE), "ok")
     mount.term()
-    until(lambda: "waiting 15 seconds" in mount.output())
+    until(lambda: f"waiting {PATIENCE} seconds" in mount.output())
     time.sleep(0.2)
     same((mount.running.poll(), one.ask("flock", "a", SHARED), one.ask("close", "a")), (None, "ok", "ok"))
     same(mount.end(lambda: None), (0, "legal"))
@@ -75,12 +76,18 @@ def try_term_waits_for_open_files():
 
 
 def try_term_ends_it_when_its_grace_is_over():
-    mount = Mount("--grace", "1")
-    one, two = held_and_waited_for(mount)
-    begun = time.monotonic()
-    same(mount.end(mount.term), (4, "legal"))
-    assert 0.9 < time.monotonic() - begun < 9
-    same(two.answer(), "ECONNABORTED")
+    def ends():
+        mount = Mount("--grace", "1")
+        one, two = held_and_waited_for(mount)
+        begun = time.monotonic()
+        same(mount.end(mount.term), (4, "legal"))
+        took = time.monotonic() - begun
+        assert took > 0.9, took
+        same(two.answer(), "ECONNABORTED")
+        one.kill()
+        two.kill()
+        return None, took
+    soon(9, ends)
 
 
 def try_a_second_term_ends_it_at_once():
@@ -122,7 +129,7 @@ def try_a_lazy_umount_keeps_others_out_while_files_are_open():
     subprocess.run(["umount", "-l", mount.folder], timeout=PATIENCE, check=True)
     assert two.waits() and not mount.is_mounted()
     contains(refusal(folder=mount.folder), "an earlier mount", "still serves open files")
-    waiting = subprocess.Popen([PROGRAM, "--grace", "15", "--trace", "none", mount.folder], stdout=subprocess.PIPE, stderr=subprocess.DEVNULL, text=True)
+    waiting = subprocess.Popen([PROGRAM, "--grace", str(PATIENCE), "--trace", "none", mount.folder], stdout=subprocess.PIPE, stderr=subprocess.DEVNULL, text=True)
     time.sleep(0.3)
     same((waiting.poll(), is_mounted(mount.folder)), (None, False))
     same([one.ask("close", "a"), two.answer()], ["ok", "ok"])
@@ -153,12 +160,12 @@ def try_a_mount_kept_in_another_namespace_keeps_others_out():
     inside = subprocess.Popen(["unshare", "--mount", "--propagation", "private", "sh", "-c", f"exec 9> {mount.folder}/held; flock 9; echo in; read end"],
                               stdin=subprocess.PIPE, stdout=subprocess.PIPE, text=True)
     same(inside.stdout.readline(), "in\n")
-    subprocess.run(["umount", mount.folder], timeout=PATIENCE, check=True)
+    unmount(mount.folder)
     same((mount.running.poll(), mount.is_mounted()), (None, False))
     contains(refusal(folder=mount.folder), "an earlier mount")
     inside.communicate("end\n", timeout=PATIENCE)
     same(mount.end(lambda: None), (0, "legal"))
-    mounts_again(mount.folder, "--grace", "9")
+    mounts_again(mount.folder)
 
 
 def try_term_where_another_namespace_has_it_mounted():
@@ -181,8 +188,7 @@ def try_a_container_keeps_a_dead_mount_at_another_path():
     subprocess.run(["umount", "-l", mount.folder], timeout=PATIENCE, check=True)
     contains(refusal(folder=mount.folder), "an earlier mount", str(inside.pid))
     inside.communicate("end\n", timeout=PATIENCE)
-    # The kernel ends the container's mounts in a moment.
-    mounts_again(mount.folder, "--grace", "9")
+    mounts_again(mount.folder)
 
 
 def try_a_container_with_a_dead_mount_and_no_open_file_keeps_nobody_out():
@@ -218,8 +224,6 @@ def try_the_server_is_killed_while_processes_wait():
 def try_the_server_is_killed_without_open_files():
     mount = Mount()
     shell(mount, "flock job echo in", "in")
-    # The answer to this comes behind that to the RELEASE, for which no process waits.
-    assert not os.path.exists(f"{mount.folder}/other")
     same(mount.end(lambda: os.kill(mount.server(), signal.SIGKILL))[0], 1)
     assert not mount.is_mounted()
 
@@ -230,7 +234,7 @@ def try_the_carrier_is_killed():
     server = mount.server()
     same(mount.end(lambda: mount.running.kill())[0], -signal.SIGKILL)
     same(two.answer(), "ECONNABORTED")
-    until(lambda: not os.path.exists(f"/proc/{server}") or "Z" in open(f"/proc/{server}/stat", encoding="ascii").read())
+    until(lambda: state_of(f"/proc/{server}") in "XZ")
     lock_fails(mount.folder)
     contains(refusal(folder=mount.folder), "an earlier mount", str(one.pid))
     # Where the dead mount is taken away by hand, they still think that they hold it.
@@ -239,7 +243,7 @@ def try_the_carrier_is_killed():
     one.kill()
     begun = time.monotonic()
     threading.Timer(0.5, two.kill).start()
-    mounts_again(mount.folder, "--grace", "10")
+    mounts_again(mount.folder)
     assert time.monotonic() - begun > 0.4
 
 
@@ -277,18 +281,18 @@ def try_an_abort_without_open_files():
 
 
 def try_a_server_that_stands_still_keeps_nobody_from_the_end():
-    mount = Mount()
-    one, two = held_and_waited_for(mount)
-    (three,) = children(f"{mount.folder}/held", 1)
-    server = mount.server()
-    os.kill(server, signal.SIGSTOP)
-    three.begin("flock", "a", ALONE)
-    assert three.waits()
-    begun = time.monotonic()
-    mount.term()
-    same([two.answer(), three.answer()], ["ECONNABORTED"] * 2)
-    assert time.monotonic() - begun < 5
-    same(mount.end(lambda: None), (4, "legal"))
+    def ends():
+        mount = Mount()
+        one, two = held_and_waited_for(mount)
+        (three,) = children(f"{mount.folder}/held", 1)
+        stop(mount.server())
+        three.begin("flock", "a", ALONE)
+        assert three.waits()
+        begun = time.monotonic()
+        mount.term()
+        same([two.answer(), three.answer()], ["ECONNABORTED"] * 2)
+        return mount, time.monotonic() - begun
+    same(soon(5, ends).end(lambda: None), (4, "legal"))
 
 
 def try_a_server_that_stands_still_loses_nothing():
@@ -301,7 +305,7 @@ def try_a_server_that_stands_still_loses_nothing():
         said[at] = outcome(fcntl.flock, fds[at], SHARED | AT_ONCE)
 
     threads = [threading.Thread(target=lock, args=(at,), daemon=True) for at in range(len(fds))]
-    os.kill(serving, signal.SIGSTOP)
+    stop(serving)
     try:
         for it in threads:
             it.start()
@@ -314,7 +318,7 @@ def try_a_server_that_stands_still_loses_nothing():
     same(said, [None] * len(fds))
     for fd in fds[1:]:
         os.close(fd)
-    shell(mount, f"flock -n {path} echo in || echo held; flock -s -w 10 {path} echo both", "held both")
+    shell(mount, f"flock -n {path} echo in || echo held; flock -s -w {PATIENCE} {path} echo both", "held both")
     os.close(fds[0])
-    shell(mount, f"flock -w 10 {path} echo in", "in")
+    shell(mount, f"flock -w {PATIENCE} {path} echo in", "in")
     same(mount.end(), (0, "legal"))

@@ -2,7 +2,7 @@
 
 A `Child` is another process, which opens and locks files where it is told to. Each wait has an end, by `PATIENCE`.
 """
-import errno, fcntl, os, shutil, signal, struct, subprocess, sys, tempfile, time
+import errno, fcntl, os, re, shutil, signal, struct, subprocess, sys, tempfile, time
 from multiprocessing import Pipe
 
 TOP = os.path.dirname(os.path.dirname(os.path.abspath(__file__)))
@@ -24,7 +24,7 @@ class Mount:
         self.folder = folder or tempfile.mkdtemp(dir=WORK)
         if not folder:
             os.chmod(self.folder, mode)
-        self.said = tempfile.TemporaryFile("w+", dir=WORK)
+        self.words, self.said = words, tempfile.TemporaryFile("w+", dir=WORK)
         self.running = subprocess.Popen([program, *words, "--", self.folder], stdout=self.said, stderr=subprocess.STDOUT,
                                         env={**os.environ, "TMPDIR": WORK, **env})
         until(lambda: "mounted at" in self.output() or self.running.poll() is not None)
@@ -49,7 +49,8 @@ class Mount:
         if how:
             how()
         else:
-            subprocess.run([*UMOUNT, self.folder], timeout=PATIENCE)
+            has_closed_files(self.folder)
+            unmount(self.folder)
         status = self.running.wait(timeout=PATIENCE)
         return status, self.output().splitlines()[-1]
 
@@ -58,6 +59,15 @@ class Mount:
 
     def is_mounted(self):
         return is_mounted(self.folder)
+
+    def lets_wait(self, child):
+        """Whether the last order of a process in the trace is one that waits. Several workers take orders in any order, also after `Child.waits`."""
+        trace = self.words[self.words.index("--trace") + 1] if "--trace" in self.words else re.search("its trace is (.*)\n", self.output())[1]
+        with open(trace, "rb") as it:
+            lines = [line.split() for line in it.read().split(b"\n")[:-1]]
+        told = {line[1] for line in lines if line[0] == b"tell"}
+        asked = [line for line in lines if line[0] == b"ask" and int(line[6]) == child.pid]
+        return bool(asked) and asked[-1][7] == b"setlkw" and asked[-1][2] not in told
 
 
 def abort(mount):
@@ -94,13 +104,35 @@ def is_mounted(folder):
         return any(line.split()[4] == folder for line in it)
 
 
-def refusal(*words, folder=None, seconds=9, program=PROGRAM, **env):
+def has_closed_files(folder):
+    """Waits until the carrier has the RELEASE of each file that was closed so far. No process waits for one, but it goes before other messages."""
+    outcome(os.stat, f"{folder}/missing")
+
+
+def unmount(folder):
+    """As `umount` does, and again while the folder is busy: each carrier that looks for open files goes through those of all mounts."""
+    until(lambda: not subprocess.run([*UMOUNT, folder], capture_output=True, timeout=PATIENCE).returncode or not is_mounted(folder))
+
+
+def soon(seconds, function):
+    """The function says what it gives, and in how many seconds. One of three times these are less: other programs may keep the processors for a while."""
+    for _ in range(3):
+        found, took = function()
+        if took < seconds:
+            return found
+    raise AssertionError(f"it takes {took} seconds")
+
+
+def refusal(*words, folder=None, program=PROGRAM, **env):
     """What lockd_mount says where it mounts nothing, which has to be soon."""
-    begun = time.monotonic()
-    ran = subprocess.run([program, *words, *([folder] if folder else [])], capture_output=True, text=True, timeout=PATIENCE,
-                         env={**os.environ, "TMPDIR": WORK, **env})
+    def refused():
+        begun = time.monotonic()
+        ran = subprocess.run([program, *words, *([folder] if folder else [])], capture_output=True, text=True, timeout=PATIENCE,
+                             env={**os.environ, "TMPDIR": WORK, **env})
+        return ran, time.monotonic() - begun
+
+    ran = soon(9, refused)
     same(ran.returncode, 2)
-    assert time.monotonic() - begun < seconds, "it waited"
     return ran.stderr
 
 
@@ -235,8 +267,26 @@ def same(found, wanted):
 def shell(mount, script, wanted, status=0):
     """Has `sh` run the script in the folder, and compares what it prints."""
     ran = subprocess.run(["sh", "-c", script], cwd=mount.folder, stdout=subprocess.PIPE, stderr=subprocess.STDOUT, text=True,
-                         timeout=PATIENCE, stdin=subprocess.DEVNULL)
+                         timeout=4 * PATIENCE, stdin=subprocess.DEVNULL)
     same((ran.stdout.split(), ran.returncode), (wanted.split(), status))
+    has_closed_files(mount.folder)
+
+
+def stop(*pids):
+    """Stops processes, and waits until each of their threads stands still."""
+    for pid in pids:
+        os.kill(pid, signal.SIGSTOP)
+    for pid in pids:
+        until(lambda: {state_of(f"/proc/{pid}/task/{it}") for it in os.listdir(f"/proc/{pid}/task")} == {"T"})
+
+
+def state_of(folder):
+    """The state of a thread or a process by its folder in /proc, or `X` where it is gone."""
+    try:
+        with open(f"{folder}/stat", encoding="ascii") as it:
+            return it.read().rpartition(")")[2].split()[0]
+    except OSError:
+        return "X"
 
 
 def as_user(script, *words):

@@ -45,7 +45,7 @@ def try_many_calls_leave_no_copy():
     take_no_memory(CALLS // 20, "--resume", tempfile.mkdtemp(dir=WORK) + "/file", "--no-check")
 
 
-try_many_calls_take_no_memory.seconds = try_many_calls_leave_no_copy.seconds = 2 * SECONDS + 40
+try_many_calls_take_no_memory.seconds = try_many_calls_leave_no_copy.seconds = 2 * SECONDS + 4 * PATIENCE
 
 
 def try_random_messages_and_replies():
@@ -57,8 +57,8 @@ def try_random_messages_and_replies():
         print("not tried: this compiler has no sanitizers", flush=True)
         return
     same(built.stderr, "")
-    ran = subprocess.run([program, "300000"], capture_output=True, text=True, timeout=60)
+    ran = subprocess.run([program, "300000"], capture_output=True, text=True, timeout=4 * PATIENCE)
     same((ran.returncode, ran.stderr[:500]), (0, ""))
 
 
-try_random_messages_and_replies.seconds = 80
+try_random_messages_and_replies.seconds = 5 * PATIENCE

@@ -95,7 +95,7 @@ def try_1024_open_files(mount):
     same((fd, len(held)), ("ENFILE", 1024))
     for fd in held:
         os.close(fd)
-    shell(mount, "flock -w 10 opened echo in", "in")
+    shell(mount, f"flock -w {PATIENCE} opened echo in", "in")
 
 
 def try_no_more_locks_than_runs():
@@ -171,8 +171,8 @@ def try_a_trace_that_goes_nowhere():
     same((status, said.startswith("trace: ")), (0, True))
 
 
-def lock_for_a_while(mount, seconds):
-    last = time.monotonic() + seconds
+def lock_for_a_while(mount):
+    last = time.monotonic() + PATIENCE
     while time.monotonic() < last and "doesn't grow" not in mount.output():
         shell(mount, "for one in 1 2 3 4 5 6 7 8 9; do flock job true; done", "")
         time.sleep(0.2)
@@ -182,12 +182,12 @@ def try_a_full_trace_is_said_while_it_runs():
     disk = tempfile.mkdtemp(dir=WORK)
     subprocess.run(["mount", "-t", "tmpfs", "-o", "size=4k", "none", disk], check=True, timeout=PATIENCE)
     mount = Mount("--trace", f"{disk}/trace")
-    lock_for_a_while(mount, 19)
+    lock_for_a_while(mount)
     mount.says("doesn't grow")
     status, _ = mount.end()
     assert status == 3
     mount.says("trace failed", "the server ended with status 2")
-    subprocess.run(["umount", disk], check=True, timeout=PATIENCE)
+    unmount(disk)
 
 
 def try_a_full_trace_may_refuse_locks():
@@ -203,7 +203,7 @@ def try_a_full_trace_may_refuse_locks():
     shell(mount, "flock -n job echo in", "in")
     os.close(fd)
     same(mount.end(), (0, "legal"))
-    subprocess.run(["umount", disk], check=True, timeout=PATIENCE)
+    unmount(disk)
 
 
 def try_a_limit_of_a_file_ends_no_server():

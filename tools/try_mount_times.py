@@ -17,6 +17,7 @@ def waited_for(mount):
         same(one.ask(kind, "a", lock), "ok")
         two.begin(kind, "a", lock, *((0, 0, True) if kind == "record" else ()))
         assert two.waits()
+        until(lambda: mount.lets_wait(two))
         time.sleep(0.1)
         same([one.ask(kind, "a", unlock), two.answer()], ["ok", "ok"])
         one.kill()
@@ -71,4 +72,4 @@ def try_times_on_a_full_disk():
     mount.says(f"times are no longer written to {small}/times: No space left on device")
     same(mount.output().count("no longer"), 1)
     read_times(bytes_of(f"{small}/times"))
-    subprocess.run(["umount", small], check=True, timeout=PATIENCE)
+    unmount(small)
