@@ -75,7 +75,7 @@ def try_nothing_says_that_the_kernel_lacks_it(mount):
 
 def try_files_that_the_kernel_lets_go_at_once():
     mount = Mount()
-    for _ in range(3):
+    for _ in as_often(3):
         names = [f"{mount.folder}/let_go{at}" for at in range(200)]
         for name in names:
             os.close(os.open(name, os.O_RDWR | os.O_CREAT))
@@ -88,7 +88,7 @@ def try_files_that_the_kernel_lets_go_at_once():
 
 def try_a_burst_of_closing_files_takes_no_lock_away(mount):
     path = f"{mount.folder}/burst"
-    for _ in range(5):
+    for _ in as_often(5):
         # Files that are under way in a socket are closed by the kernel all at once, without a FLUSH.
         here, there = socket.socketpair()
         fds = [os.open(path, os.O_RDWR | os.O_CREAT) for _ in range(900)]
@@ -125,7 +125,7 @@ def lock_by_a_new_file(path):
 def try_a_burst_of_closing_files_takes_no_ofd_lock_away(mount):
     """A new open file may stand where an old one stood, and has its owner, while the old one's RELEASE waits."""
     path = f"{mount.folder}/ofd_burst"
-    for _ in range(5):
+    for _ in as_often(5):
         here, there = socket.socketpair()
         fds = [os.open(path, os.O_RDWR | os.O_CREAT) for _ in range(900)]
         for fd in fds:

@@ -114,6 +114,16 @@ def unmount(folder):
     until(lambda: not subprocess.run([*UMOUNT, folder], capture_output=True, timeout=PATIENCE).returncode or not is_mounted(folder))
 
 
+def as_often(count):
+    """The numbers of so many rounds, or of as many as two minutes suffice for, and one at least."""
+    last = time.monotonic() + 2 * PATIENCE
+    for at in range(count):
+        if at and time.monotonic() > last:
+            print(f"{at} rounds in two minutes, and not {count}", flush=True)
+            return
+        yield at
+
+
 def soon(seconds, function):
     """The function says what it gives, and in how many seconds. One of three times these are less: other programs may keep the processors for a while."""
     for _ in range(3):

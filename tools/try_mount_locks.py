@@ -187,16 +187,6 @@ def try_a_waiting_process_is_killed(mount):
 CELLS = 64
 
 
-def calls():
-    """The numbers of 5000 calls, or of as many as two minutes suffice for."""
-    last = time.monotonic() + 2 * PATIENCE
-    for call in range(5000):
-        if time.monotonic() > last:
-            print(f"{call} calls in {2 * PATIENCE} seconds, and not 5000", flush=True)
-            return
-        yield call
-
-
 class Model:
     """Which process holds which of the first bytes of each file, the last cell for all that follow: judges F_GETLK."""
 
@@ -231,7 +221,7 @@ def try_5000_random_calls_of_fcntl(mount):
     pids, held = [it.pid for it in team], set()
     told, others = 0, 0
     try:
-        for call in calls():
+        for call in as_often(5000):
             at, name = chance.randrange(4), chance.choice(["x", "y"])
             start = chance.randrange(CELLS)
             length = chance.choice([0, *range(1, 30)])
@@ -273,7 +263,7 @@ def try_5000_random_calls_of_flock(mount):
     team = [Child() for _ in range(4)]
     files, lost = {}, 0
     try:
-        for call in calls():
+        for call in as_often(5000):
             at, name = chance.randrange(4), chance.choice(["x", "y", "x2", "y2"])
             kind = chance.choice([SHARED, SHARED, ALONE, NOT_HELD])
             if (at, name) not in files:
