@@ -245,7 +245,7 @@ def try_a_kernel_that_is_too_old():
     """A library makes this kernel's INIT that of an older one."""
     library = f"{WORK}/older.so"
     subprocess.run(["cc", "-O2", "-Wall", "-Wextra", "-shared", "-fPIC", "-o", library, f"{TOP}/tools/try_mount_older.c"],
-                   check=True, timeout=PATIENCE)
+                   check=True, timeout=5 * PATIENCE)
     folder = tempfile.mkdtemp(dir=WORK)
     contains(refusal(folder=folder, LD_PRELOAD=library), "this kernel speaks FUSE 7.27, and 7.31 is wanted", "nothing is mounted")
     assert not is_mounted(folder)

@@ -151,8 +151,8 @@ def contains(text, *words):
         assert word in text, f"{word!r} isn't in {text!r}"
 
 
-def until(holds):
-    last = time.monotonic() + PATIENCE
+def until(holds, patience=PATIENCE):
+    last = time.monotonic() + patience
     while not holds():
         assert time.monotonic() < last, "out of patience"
         time.sleep(0.01)

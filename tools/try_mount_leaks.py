@@ -17,7 +17,7 @@ def taken(pid):
 def take_no_memory(calls, *words):
     """A mount takes no more memory after so many calls than after 20,000."""
     program = tempfile.mkdtemp(dir=WORK) + "/try_mount_calls"
-    subprocess.run(["cc", "-O2", "-Wall", "-Wextra", "-o", program, f"{TOP}/tools/try_mount_calls.c"], check=True, timeout=PATIENCE)
+    subprocess.run(["cc", "-O2", "-Wall", "-Wextra", "-o", program, f"{TOP}/tools/try_mount_calls.c"], check=True, timeout=5 * PATIENCE)
     mount = Mount(*words, "--discard-writes")
 
     def call(calls):
@@ -45,14 +45,14 @@ def try_many_calls_leave_no_copy():
     take_no_memory(CALLS // 20, "--resume", tempfile.mkdtemp(dir=WORK) + "/file", "--no-check")
 
 
-try_many_calls_take_no_memory.seconds = try_many_calls_leave_no_copy.seconds = 2 * SECONDS + 4 * PATIENCE
+try_many_calls_take_no_memory.seconds = try_many_calls_leave_no_copy.seconds = 2 * SECONDS + 10 * PATIENCE
 
 
 def try_random_messages_and_replies():
     program = f"{WORK}/try_mount_turned"
     parts = [f"{TOP}/mount/{it}.c" for it in ("messages", "replies", "answers", "names", "opens", "kept", "say")]
     built = subprocess.run(["cc", "-g", "-O1", "-std=gnu11", "-Wall", "-Wextra", "-Wconversion", "-fsanitize=address,undefined", "-fno-sanitize-recover=undefined",
-                            "-pthread", "-o", program, f"{TOP}/tools/try_mount_turned.c", *parts], capture_output=True, text=True, timeout=PATIENCE)
+                            "-pthread", "-o", program, f"{TOP}/tools/try_mount_turned.c", *parts], capture_output=True, text=True, timeout=5 * PATIENCE)
     if built.returncode:
         print("not tried: this compiler has no sanitizers", flush=True)
         return
@@ -61,4 +61,4 @@ def try_random_messages_and_replies():
     same((ran.returncode, ran.stderr[:500]), (0, ""))
 
 
-try_random_messages_and_replies.seconds = 5 * PATIENCE
+try_random_messages_and_replies.seconds = 10 * PATIENCE

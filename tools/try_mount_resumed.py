@@ -14,14 +14,14 @@ SEED = int(os.environ.get("TRY_MOUNT_SEED", 0)) or random.randrange(1 << 30)
 
 def built(name):
     """A program that is built from tools/."""
-    subprocess.run(["cc", "-O2", "-Wall", "-Wextra", "-o", f"{WORK}/{name}", f"{TOP}/tools/{name}.c"], check=True, timeout=PATIENCE)
+    subprocess.run(["cc", "-O2", "-Wall", "-Wextra", "-o", f"{WORK}/{name}", f"{TOP}/tools/{name}.c"], check=True, timeout=5 * PATIENCE)
     return f"{WORK}/{name}"
 
 
 def starting_often():
     """A carrier that starts its server again as often as it ends, with the sanitizers if there are any."""
     checks = ["-g", "-fsanitize=address,undefined", "-fno-sanitize-recover=undefined"] if os.environ.get("LOCKD_MOUNT_CHECKED") else []
-    subprocess.run([f"{TOP}/mount/build", f"{WORK}/lockd_mount_often", "-DMOST_RESTARTS=100000", *checks], check=True, timeout=2 * PATIENCE)
+    subprocess.run([f"{TOP}/mount/build", f"{WORK}/lockd_mount_often", "-DMOST_RESTARTS=100000", *checks], check=True, timeout=5 * PATIENCE)
     return f"{WORK}/lockd_mount_often"
 
 
@@ -140,7 +140,7 @@ def try_a_server_that_is_killed_at_random_moments():
     same((ended, killed >= KILLS, held_at_the_end(mount, *rules)), ((0, "legal"), True, []))
 
 
-try_a_server_that_is_killed_at_random_moments.seconds = 5 * PATIENCE + 4 * KILLS
+try_a_server_that_is_killed_at_random_moments.seconds = 10 * PATIENCE + 4 * KILLS
 
 
 # ---- Who waits ----
