@@ -2,19 +2,21 @@
 """Spreads the files of traces over servers by their names, on paper: bench/spread.py TITLE=TRACE[,TRACE..] .. (bench/spread.sh makes traces, and says what they are)
 
 Each trace is one of `lockd`, of a single server. Nothing is served: the script follows a trace and asks where each order would have gone. A name's server is the
-one with the greatest hash of its own name and the file's (rendezvous hashing, `server_of`), or the hash of the name modulo the number of servers. The figures are
-means over DRAWS draws, in each of which servers have other names. It prints, in Markdown:
+one with the greatest hash of its own name and the file's (rendezvous hashing, `server_of`); or that of the next of POINTS points of each server, on a ring of
+hashes (consistent hashing); or the hash of the name modulo the number of servers. The figures are means over DRAWS draws, in each of which servers have other
+names. It prints, in Markdown:
 
 - how even it gets: the largest share of a server to the mean, by names and by orders on files, with the worst draw by orders in parentheses. 1 is even, and as
   many as there are servers: one has all. Orders on the directory alone don't count;
 - which share of EDEADLK replies no server would give, since their circles cross. The waits of a trace, and the locks that they are for, are those before the
   reply. A server sees those on its own files, and replies EDEADLK if they close a circle with the request;
-- the two ways of hashing side by side, over the names of all traces: how even, and which share of the names moves when one server more comes.
+- the three ways of hashing side by side, over the names of all traces: how even, and which share of the names moves when one server more comes.
 
 Where it says `by the part before the dot`, names that are alike before their first dot (`job7.data`, `job7.index`) stay on one server.
 """
 import os
 import sys
+from bisect import bisect
 from collections import Counter, defaultdict
 from functools import lru_cache
 from hashlib import sha256
@@ -27,6 +29,7 @@ from report.trace import read_trace
 
 SERVERS = 2, 4, 8, 16
 DRAWS = 20
+POINTS = 64
 ROOT = 1
 
 
@@ -68,6 +71,17 @@ def hashed(name, draw):
 
 def modulo(name, draw, count):
     return hashed(name, draw) % count
+
+
+@lru_cache(maxsize=None)
+def points_of(draw, count):
+    return sorted((hash_of(server, b"%d" % point), at) for at, server in enumerate(server_names(draw, count)) for point in range(POINTS))
+
+
+def ring(name, draw, count):
+    """The server of the first point behind the name's hash, or of the first of all."""
+    points = points_of(draw, count)
+    return points[bisect(points, (hashed(name, draw),)) % len(points)][1]
 
 
 def before_dot(name, draw, count):
@@ -210,7 +224,7 @@ def main(words):
     table(of_servers(f"{len(every):,} names of all traces"),
           [(f"{what}, {way}", *(mean(it) for it in over_draws(lambda draw, count: figure(every, place, draw, count))))
            for what, figure in (("largest share to the mean", largest_to_mean), ("share that moves when one server comes", moved))
-           for way, place in (("rendezvous", rendezvous), ("modulo", modulo))])
+           for way, place in (("rendezvous", rendezvous), (f"a ring with {POINTS} points a server", ring), ("modulo", modulo))])
 
 
 if __name__ == "__main__":

@@ -69,12 +69,15 @@ def traced(name, fill):
     """The trace of a mount in which this was done, which has to be legal."""
     folder = tempfile.mkdtemp(dir=WORK)
     command = ["mount/out/lockd_mount", "--files", "65536", "--trace", f"{KEPT}/{name}.trace", folder]
-    with subprocess.Popen(command, stdout=subprocess.PIPE, stderr=subprocess.DEVNULL, text=True, env={**os.environ, "LOCKD": PROGRAM}) as serving:
+    serving = subprocess.Popen(command, stdout=subprocess.PIPE, stderr=subprocess.DEVNULL, text=True, env={**os.environ, "LOCKD": PROGRAM})
+    try:
         assert serving.stdout.readline().startswith("mounted")
         fill(folder)
         subprocess.run(["umount", folder], check=True, timeout=LONGEST)
         said = serving.communicate(timeout=LONGEST)[0].split()
-    assert serving.returncode == 0 and said[-1] == "legal", said
+        assert serving.returncode == 0 and said[-1] == "legal", said
+    finally:
+        serving.kill()
 
 
 def with_flock(folder):
