@@ -4,8 +4,8 @@
 #   circles     as in bench/circles.sh, 255 requests wait in a row, each on a file of its own, and 20 would close the circle (`lockd script`);
 #   programs    tools/try_programs: the programs of others that are installed here take their locks on two mounts, three processes each;
 #   flock       flock(1) locks a file for each program of /usr/bin, 8 at a time, on a mount;
-#   two of any  on a mount, 8 processes lock two of 32 files one after the other, by F_SETLKW, and hold them for a millisecond: any two of them,
-#               in any order. After EDEADLK a process drops what it has;
+#   two of any  on a mount, 16 processes lock two of 32 files one after the other, by F_SETLKW, and hold each for 2 ms: any two of them, in any order.
+#               After EDEADLK a process drops what it has;
 #   two of a job  the same, but the two are of one of 8 jobs (`job3.data`, `job3.index`, ..).
 # `lockd check` judges each. The last four want root, /dev/fuse and a C compiler, and are left out where these aren't there. It takes a minute.
 #
@@ -60,7 +60,7 @@ END
 import errno, fcntl, os, random, subprocess, sys, tempfile, time
 
 PROGRAM, KEPT, WORK = sys.argv[1:]
-PROCESSES, TURNS, LONGEST = 8, 400, 300
+AT_A_TIME, PROCESSES, TURNS, LONGEST = 8, 16, 250, 300
 JOBS = [[f"job{job}.{what}" for what in ("data", "index", "journal", "lock")] for job in range(8)]
 FILES = [it for job in JOBS for it in job]
 
@@ -82,13 +82,13 @@ def traced(name, fill):
 
 def with_flock(folder):
     names = "".join(f"{it}\n" for it in sorted(os.listdir("/usr/bin")))
-    subprocess.run(["xargs", "-P", str(PROCESSES), "-I{}", "flock", f"{folder}/{{}}", "true"], input=names, text=True, check=True, timeout=LONGEST)
+    subprocess.run(["xargs", "-P", str(AT_A_TIME), "-I{}", "flock", f"{folder}/{{}}", "true"], input=names, text=True, check=True, timeout=LONGEST)
 
 
 def lock_two(opened, names):
     for it in names:
         fcntl.lockf(opened[it], fcntl.LOCK_EX)
-        time.sleep(0.001)
+        time.sleep(0.002)
 
 
 def turns(folder, at, choose):
