@@ -200,8 +200,15 @@ def of_servers(*first):
     return (*first, *(f"{it} servers" for it in SERVERS))
 
 
-def evenness(title, names):
-    by_names, by_orders = (over_draws(lambda draw, count: largest_to_mean(it, rendezvous, draw, count)) for it in (dict.fromkeys(names, 1), names))
+def ways_of(title, names, circles):
+    """How names are hashed, with a title: also by what stands before the dot, where a trace has EDEADLK and such names."""
+    yield title, rendezvous
+    if circles and any(b"." in it.lstrip(b".") for it in names):
+        yield f"{title}, by the part before the dot", before_dot
+
+
+def evenness(title, names, place):
+    by_names, by_orders = (over_draws(lambda draw, count: largest_to_mean(it, place, draw, count)) for it in (dict.fromkeys(names, 1), names))
     cells = (f"{mean(one)} / {mean(other)} ({max(other):.2f})" for one, other in zip(by_names, by_orders))
     return title, f"{sum(names.values()):,}", f"{len(names):,}", *cells
 
@@ -216,10 +223,9 @@ def main(words):
         sys.exit("bench/spread.py TITLE=TRACE[,TRACE..] ..")
     traces = {title: followed(paths.split(",")) for title, _, paths in given}
     table(of_servers("Largest share to the mean, by names / by orders (worst)", "orders", "names"),
-          [evenness(title, names) for title, (names, _) in traces.items()])
+          [evenness(way, names, place) for title, (names, circles) in traces.items() for way, place in ways_of(title, names, circles)])
     table(of_servers("EDEADLK that no server gives", "of"),
-          [losses(f"{title}{how}", circles, place) for title, (names, circles) in traces.items() if circles
-           for how, place in (("", rendezvous), (", by the part before the dot", before_dot)) if not how or any(b"." in it for it in names)])
+          [losses(way, circles, place) for title, (names, circles) in traces.items() if circles for way, place in ways_of(title, names, circles)])
     every = Counter(dict.fromkeys((it for names, _ in traces.values() for it in names), 1))
     table(of_servers(f"{len(every):,} names of all traces"),
           [(f"{what}, {way}", *(mean(it) for it in over_draws(lambda draw, count: figure(every, place, draw, count))))

@@ -3,7 +3,7 @@
 #   peers       the client of bench/peers.sh locks and unlocks on 64 files, 64 messages under way;
 #   circles     as in bench/circles.sh, 255 requests wait in a row, each on a file of its own, and 20 would close the circle (`lockd script`);
 #   programs    tools/try_programs: the programs of others that are installed here take their locks on two mounts, three processes each;
-#   flock       flock(1) locks a file for each program of /usr/bin, 8 at a time, on a mount;
+#   flock       flock(1) locks a file for each program of /usr/bin (4,000 at most), 8 at a time, on a mount;
 #   two of any  on a mount, 16 processes lock two of 32 files one after the other, by F_SETLKW, and hold each for 2 ms: any two of them, in any order.
 #               After EDEADLK a process drops what it has;
 #   two of a job  the same, but the two are of one of 8 jobs (`job3.data`, `job3.index`, ..).
@@ -61,14 +61,14 @@ import errno, fcntl, os, random, subprocess, sys, tempfile, time
 
 PROGRAM, KEPT, WORK = sys.argv[1:]
 AT_A_TIME, PROCESSES, TURNS, LONGEST = 8, 16, 250, 300
+FILES = [f"file{it}" for it in range(32)]
 JOBS = [[f"job{job}.{what}" for what in ("data", "index", "journal", "lock")] for job in range(8)]
-FILES = [it for job in JOBS for it in job]
 
 
-def traced(name, fill):
+def traced(name, fill, *options):
     """The trace of a mount in which this was done, which has to be legal."""
     folder = tempfile.mkdtemp(dir=WORK)
-    command = ["mount/out/lockd_mount", "--files", "65536", "--trace", f"{KEPT}/{name}.trace", folder]
+    command = ["mount/out/lockd_mount", *options, "--trace", f"{KEPT}/{name}.trace", folder]
     serving = subprocess.Popen(command, stdout=subprocess.PIPE, stderr=subprocess.DEVNULL, text=True, env={**os.environ, "LOCKD": PROGRAM})
     try:
         assert serving.stdout.readline().startswith("mounted")
@@ -81,7 +81,7 @@ def traced(name, fill):
 
 
 def with_flock(folder):
-    names = "".join(f"{it}\n" for it in sorted(os.listdir("/usr/bin")))
+    names = "".join(f"{it}\n" for it in sorted(os.listdir("/usr/bin"))[:4_000])
     subprocess.run(["xargs", "-P", str(AT_A_TIME), "-I{}", "flock", f"{folder}/{{}}", "true"], input=names, text=True, check=True, timeout=LONGEST)
 
 
@@ -91,9 +91,9 @@ def lock_two(opened, names):
         time.sleep(0.002)
 
 
-def turns(folder, at, choose):
+def turns(folder, at, every, choose):
     chance = random.Random(at)
-    opened = {it: os.open(f"{folder}/{it}", os.O_RDWR | os.O_CREAT) for it in FILES}
+    opened = {it: os.open(f"{folder}/{it}", os.O_RDWR | os.O_CREAT) for it in every}
     for _ in range(TURNS):
         names = choose(chance)
         try:
@@ -104,7 +104,7 @@ def turns(folder, at, choose):
             fcntl.lockf(opened[it], fcntl.LOCK_UN)
 
 
-def in_pairs(choose):
+def in_pairs(every, choose):
     def fill(folder):
         processes = []
         for at in range(PROCESSES):
@@ -112,7 +112,7 @@ def in_pairs(choose):
             if not pid:
                 status = 1
                 try:
-                    turns(folder, at, choose)
+                    turns(folder, at, every, choose)
                     status = 0
                 finally:
                     os._exit(status)
@@ -121,9 +121,9 @@ def in_pairs(choose):
     return fill
 
 
-traced("flock", with_flock)
-traced("two_of_any", in_pairs(lambda chance: chance.sample(FILES, 2)))
-traced("two_of_a_job", in_pairs(lambda chance: chance.sample(chance.choice(JOBS), 2)))
+traced("flock", with_flock, "--files", "4096")
+traced("two_of_any", in_pairs(FILES, lambda chance: chance.sample(FILES, 2)))
+traced("two_of_a_job", in_pairs(sum(JOBS, []), lambda chance: chance.sample(chance.choice(JOBS), 2)))
 END
     set -- "$@" "programs=$(echo "$kept"/programs*.trace | tr ' ' ,)" "flock=$kept/flock.trace" "two of any=$kept/two_of_any.trace" \
         "two of a job=$kept/two_of_a_job.trace"
