@@ -2,7 +2,7 @@
 """Spreads the files of traces over servers by their names, on paper: bench/spread.py TITLE=TRACE[,TRACE..] .. (bench/spread.sh makes traces, and says what they are)
 
 Each trace is one of `lockd`, of a single server. Nothing is served: the script follows a trace and asks where each order would have gone. A name's server is the
-one with the greatest hash of its own name and the file's (rendezvous hashing, `server_of`); or that of the next of POINTS points of each server, on a ring of
+one with the greatest hash of its own name and the file's (rendezvous hashing); or that of the next of POINTS points of each server, on a ring of
 hashes (consistent hashing); or the hash of the name modulo the number of servers. The figures are means over DRAWS draws, in each of which servers have other
 names. It prints, in Markdown:
 
@@ -37,11 +37,6 @@ ROOT = 1
 
 def hash_of(*words):
     return int.from_bytes(sha256(b"/".join(words)).digest()[:8], "big")
-
-
-def server_of(name, servers):
-    """Rendezvous hashing: all that a client has to compute."""
-    return max(servers, key=lambda server: hash_of(server, name))
 
 
 def server_names(draw, count):

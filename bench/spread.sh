@@ -9,19 +9,26 @@
 #   two of a job  the same, but the two are of one of 8 jobs (`job3.data`, `job3.index`, ..).
 # `lockd check` judges each. The last four want root, /dev/fuse and a C compiler, and are left out where these aren't there. It takes a minute.
 #
-#     bench/spread.sh [FOLDER]      (FOLDER gets the traces; it is made, and stays)
+#     bench/spread.sh [FOLDER]      (FOLDER gets the traces, and stays; those that it has aren't made again)
 set -eu
 . "$(dirname "$0")/../tools/built_lockd.sh"
 program=$(realpath "$program")
+number=0
 kept=$(realpath -m "${1:-$work/kept}")
 mkdir -p "$kept"
-rm -f "$kept"/*.trace
+# Judges a trace, and keeps it by a name.
+keep() {
+    [ "$("$program" check < "$1")" = legal ] || { echo "spread.sh: $1 isn't legal" >&2; exit 1; }
+    mv "$1" "$kept/$2.trace"
+}
 
-cc -O2 -Wall -Wextra -o "$work/client" bench/peers/client.c
-"$program" serve "$work/socket" --workers 1 --trace "$kept/peers.trace" &
-"$work/client" files "$work/socket" 64 6000 > "$work/figures"
-wait
-
+if ! [ -e "$kept/peers.trace" ]; then
+    cc -O2 -Wall -Wextra -o "$work/client" bench/peers/client.c
+    "$program" serve "$work/socket" --workers 1 --trace "$work/peers" &
+    "$work/client" files "$work/socket" 64 6000 > "$work/figures"
+    wait
+    keep "$work/peers" peers
+fi
 # The row of bench/circles.sh: owner I holds a byte of file I, and waits for that of owner I + 1.
 awk 'BEGIN {
     for (i = 0; i <= 255; i++) {
@@ -32,10 +39,8 @@ awk 'BEGIN {
         printf "ask 0 %d %d 0 0 0 setlkw %d %d 0 0 1 11 0\n", ++unique, i + 3, i + 2, i
     for (i = 0; i < 20; i++)
         printf "ask 0 %d 2 0 0 0 setlkw 1 255 0 0 1 11 0\n", ++unique
-}' | "$program" script > "$kept/circles.trace"
-for it in peers circles; do
-    [ "$("$program" check < "$kept/$it.trace")" = legal ] || { echo "$kept/$it.trace isn't legal" >&2; exit 1; }
-done
+}' | "$program" script > "$work/circles"
+keep "$work/circles" circles
 set -- "peers=$kept/peers.trace" "circles=$kept/circles.trace"
 
 apart='unshare --mount --propagation private --pid --fork --kill-child --mount-proc'
@@ -46,29 +51,33 @@ if [ "$(id -u)" -eq 0 ] && [ -c /dev/fuse ] && $apart true 2> /dev/null; then
 #!/bin/sh
 for word; do
     shift
-    [ "\$word" != none ] || word=$kept/programs\$\$.trace
+    [ "\$word" != none ] || word=$work/programs.\$\$
     set -- "\$@" "\$word"
 done
 exec "$PWD/mount/out/lockd_mount" "\$@"
 END
     chmod 755 "$work/lockd_mount"
-    LOCKD=$program LOCKD_MOUNT=$work/lockd_mount tools/try_programs > "$work/programs" || cat "$work/programs" >&2
-    for it in "$kept"/programs*.trace; do
-        [ "$("$program" check < "$it")" = legal ] || { echo "$it isn't legal" >&2; exit 1; }
-    done
+    if ! [ -e "$kept/programs1.trace" ]; then
+        LOCKD=$program LOCKD_MOUNT=$work/lockd_mount tools/try_programs > "$work/said" || cat "$work/said" >&2
+        for it in "$work"/programs.*; do
+            keep "$it" "programs$((number += 1))"
+        done
+    fi
     $apart python3 - "$program" "$kept" "$work" <<'END'
-import errno, fcntl, os, random, subprocess, sys, tempfile, time
+import errno, fcntl, os, random, shutil, subprocess, sys, tempfile, time
 
 PROGRAM, KEPT, WORK = sys.argv[1:]
-AT_A_TIME, PROCESSES, TURNS, LONGEST = 8, 16, 250, 300
+AT_A_TIME, PROCESSES, TURNS, LONGEST = 8, 16, 250, 600
 FILES = [f"file{it}" for it in range(32)]
 JOBS = [[f"job{job}.{what}" for what in ("data", "index", "journal", "lock")] for job in range(8)]
 
 
 def traced(name, fill, *options):
-    """The trace of a mount in which this was done, which has to be legal."""
+    """Keeps the trace of a mount in which this was done, which has to be legal."""
+    if os.path.exists(f"{KEPT}/{name}.trace"):
+        return
     folder = tempfile.mkdtemp(dir=WORK)
-    command = ["mount/out/lockd_mount", *options, "--trace", f"{KEPT}/{name}.trace", folder]
+    command = ["mount/out/lockd_mount", *options, "--trace", f"{WORK}/{name}", folder]
     serving = subprocess.Popen(command, stdout=subprocess.PIPE, stderr=subprocess.DEVNULL, text=True, env={**os.environ, "LOCKD": PROGRAM})
     try:
         assert serving.stdout.readline().startswith("mounted")
@@ -78,6 +87,7 @@ def traced(name, fill, *options):
         assert serving.returncode == 0 and said[-1] == "legal", said
     finally:
         serving.kill()
+    shutil.move(f"{WORK}/{name}", f"{KEPT}/{name}.trace")
 
 
 def with_flock(folder):
