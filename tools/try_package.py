@@ -1,0 +1,418 @@
+"""What tools/try_package runs in its namespace: each function whose name begins with `try_` is one thing that is tried, in this order."""
+import contextlib, glob, gzip, os, re, shlex, shutil, stat, subprocess, sys, time, traceback
+
+sys.dont_write_bytecode = True
+TOP = os.path.dirname(os.path.dirname(os.path.abspath(__file__)))
+WORK = os.environ["TRY_PACKAGE_WORK"]
+ROOT = f"{WORK}/root"
+UPPER = f"{WORK}/written"
+PATIENCE = 60  # seconds that a step may take
+NOT_TRIED = 77
+# No variable of this machine goes into the root folder.
+ENVIRONMENT = {"PATH": "/usr/local/sbin:/usr/local/bin:/usr/sbin:/usr/bin:/sbin:/bin", "HOME": "/root", "LANG": "C.UTF-8"}
+
+
+def same(found, wanted):
+    assert found == wanted, f"{found!r}, and not {wanted!r}"
+
+
+def until(holds, what):
+    last = time.monotonic() + PATIENCE
+    while not holds():
+        assert time.monotonic() < last, f"out of patience: {what}"
+        time.sleep(0.01)
+
+
+def text_of(path):
+    with open(path, encoding="utf-8") as file:
+        return file.read()
+
+
+VERSION = text_of(f"{TOP}/VERSION").strip()
+
+
+# ---- The root folder ----
+
+def mount(*words):
+    subprocess.run(["mount", *words], check=True, timeout=PATIENCE, capture_output=True)
+
+
+def over(name):
+    """A folder of this machine, below what is written to it in the root folder."""
+    os.makedirs(f"{UPPER}/{name}/upper")
+    os.makedirs(f"{UPPER}/{name}/work")
+    os.mkdir(f"{ROOT}/{name}")
+    mount("-t", "overlay", "overlay", "-o", f"lowerdir=/{name},upperdir={UPPER}/{name}/upper,workdir={UPPER}/{name}/work", f"{ROOT}/{name}")
+
+
+def put(path, text):
+    with open(f"{ROOT}/{path}", "w", encoding="utf-8") as file:
+        file.write(text)
+
+
+def make_root():
+    for folder in ROOT, UPPER:
+        os.mkdir(folder)
+        mount("-t", "tmpfs", "-o", "mode=0755", "tmpfs", folder)
+    for name in "usr", "bin", "sbin", "lib", "lib32", "lib64", "libx32":
+        if os.path.islink(f"/{name}"):
+            os.symlink(os.readlink(f"/{name}"), f"{ROOT}/{name}")
+        elif os.path.isdir(f"/{name}"):
+            over(name)
+    for name in "dev", "etc", "home", "proc", "root", "run", "srv", "tmp", "var", "var/lib":
+        os.mkdir(f"{ROOT}/{name}")
+    os.chmod(f"{ROOT}/tmp", 0o1777)
+    # What was installed on this machine by hand isn't there.
+    mount("-t", "tmpfs", "tmpfs", f"{ROOT}/usr/local")
+    mount("-t", "proc", "proc", f"{ROOT}/proc")
+    for name in "null", "zero", "urandom", "fuse":
+        put(f"dev/{name}", "")
+        mount("--bind", f"/dev/{name}", f"{ROOT}/dev/{name}")
+    for name in "ld.so.cache", "alternatives":
+        if os.path.exists(f"/etc/{name}"):
+            subprocess.run(["cp", "-a", f"/etc/{name}", f"{ROOT}/etc/{name}"], check=True, timeout=PATIENCE)
+    put("etc/passwd", "root:x:0:0:root:/root:/bin/sh\nnobody:x:65534:65534:nobody:/nonexistent:/usr/sbin/nologin\n")
+    put("etc/group", "root:x:0:\nnogroup:x:65534:\n")
+    os.symlink("/proc/self/mounts", f"{ROOT}/etc/mtab")
+
+
+def package_of_this_machine(name):
+    """What dpkg is told of a package that is installed on this machine."""
+    form = "".join(f"{it}: ${{{it}}}\n" for it in ("Package", "Status", "Architecture", "Version", "Maintainer", "Description", "Multi-Arch"))
+    ran = subprocess.run(["dpkg-query", "-W", "-f", form, name], capture_output=True, text=True, timeout=PATIENCE)
+    return "\n".join(it for it in ran.stdout.splitlines() if not it.endswith(": ")) + "\n\n"
+
+
+def make_dpkg(package):
+    """The packages that ours needs are installed in the root folder, as they are on this machine."""
+    for name in "info", "updates", "triggers":
+        os.makedirs(f"{ROOT}/var/lib/dpkg/{name}")
+    needed = subprocess.run(["dpkg-deb", "-f", package, "Depends"], capture_output=True, text=True, check=True, timeout=PATIENCE).stdout
+    put("var/lib/dpkg/status", "".join(package_of_this_machine(it) for it in re.findall(r"([a-z][a-z0-9.+-]+)(?: \([^)]*\))?(?:, |$)", needed.strip())))
+
+
+def written():
+    """What is in the root folder, and not on this machine, and what is missing of this machine. dpkg's own files don't count."""
+    found = set()
+    for top in (ROOT, f"{ROOT}/usr/local", *glob.glob(f"{UPPER}/*/upper")):
+        for at, folders, names in os.walk(top):
+            if top == ROOT:
+                folders[:] = [it for it in folders if not os.path.ismount(f"{at}/{it}") and f"{at}/{it}" != f"{ROOT}/var/lib/dpkg"]
+            lower = f"/{os.path.relpath(at, UPPER).replace('/upper', '', 1)}"
+            is_new = top != f"{UPPER}/{top.split('/')[-2]}/upper" or not os.path.isdir(lower)
+            found.update(f"{at}/{it}" for it in names)
+            if is_new:
+                found.add(at)
+    return found
+
+
+# ---- Commands in it ----
+
+def inside(*words, **how):
+    return subprocess.run(["chroot", ROOT, *words], **{"env": ENVIRONMENT, "stdin": subprocess.DEVNULL, "capture_output": True, "text": True, "timeout": PATIENCE, **how})
+
+
+def printed(*words):
+    ran = inside(*words)
+    assert ran.returncode == 0, f"{' '.join(words)}: status {ran.returncode}, {ran.stderr!r}"
+    return ran.stdout
+
+
+@contextlib.contextmanager
+def started(*words, **how):
+    with subprocess.Popen(["chroot", ROOT, *words], env=ENVIRONMENT, stdin=subprocess.PIPE, stdout=subprocess.PIPE, **how) as process:
+        try:
+            yield process
+        finally:
+            process.kill()
+
+
+def processes(name):
+    """The processes of this name, each with that of its parent."""
+    found = {}
+    for pid in filter(str.isdigit, os.listdir("/proc")):
+        try:
+            state = text_of(f"/proc/{pid}/stat")
+        except OSError:
+            continue
+        before, _, after = state.rpartition(")")
+        if before.partition("(")[2] == name and after.split()[0] != "Z":
+            found[int(pid)] = int(after.split()[1])
+    return found
+
+
+def is_mounted(folder):
+    name = re.sub(r"[\\ \t\n]", lambda it: f"\\{ord(it[0]):03o}", f"{ROOT}{folder}")
+    return any(line.split()[4] == name for line in text_of("/proc/self/mountinfo").splitlines())
+
+
+def until_all_have_ended():
+    until(lambda: not processes("lockd_mount") and not processes("lockd"), "lockd_mount runs on")
+
+
+def the_server():
+    """The server and the carrier, once there is one that has begun."""
+    found = {}
+
+    def is_one():
+        found.clear()
+        found.update(processes("lockd"))
+        return len(found) == 1
+    until(is_one, "there isn't one server")
+    return [*found.items()][0]
+
+
+def is_of_before(pid):
+    """Whether the process is of a program that isn't installed any more."""
+    return os.readlink(f"/proc/{pid}/exe").endswith("(deleted)")
+
+
+# ---- What README says ----
+
+class Shell:
+    """A shell in the root folder, which gets a command once all is there that the one before has to write."""
+
+    def __init__(self):
+        self.shell = subprocess.Popen(["chroot", ROOT, "bash"], env=ENVIRONMENT, stdin=subprocess.PIPE, stdout=subprocess.PIPE, stderr=subprocess.PIPE)
+        os.set_blocking(self.shell.stdout.fileno(), False)
+        self.came = ""
+
+    def reads(self):
+        self.came += (self.shell.stdout.read() or b"").decode()
+        return self.came
+
+    def follows(self, command, wanted):
+        """Behind what a command writes stands its status, between zero bytes."""
+        self.came = ""
+        self.shell.stdin.write(f"{command}\nprintf '\\0%d\\0' $?\n".encode())
+        self.shell.stdin.flush()
+        last = time.monotonic() + PATIENCE
+        while not (re.search("\0(\\d+)\0", self.reads()) and len(re.sub("\0\\d+\0", "", self.came)) >= len(wanted)):
+            assert time.monotonic() < last and self.shell.poll() is None, f"{command!r} wrote {self.came!r}"
+            time.sleep(0.01)
+        status = re.search("\0(\\d+)\0", self.came)[1]
+        written_now = re.sub("\0\\d+\0", "", self.came)
+        if written_now != wanted or (status != "0" and not wanted):
+            self.shell.kill()
+            raise AssertionError(f"{command!r} wrote {written_now!r} with status {status}, and told {self.shell.stderr.read()!r}")
+
+    def ends(self):
+        self.shell.stdin.close()
+        same((self.shell.wait(timeout=PATIENCE), self.shell.stdout.read() or b""), (0, b""))
+
+
+def commands(page, heading):
+    """The commands of a section, each with the output that is shown of it."""
+    section = re.search(rf"^## {heading}\n(.*?)^## ", text_of(page), re.M | re.S)[1]
+    for block in re.findall(r"^```console.*?\n(.*?)^```", section, re.M | re.S):
+        found = re.split(r"^\$ ((?:.*\\\n)*.*)\n", block, flags=re.M)
+        yield from zip(found[1::2], found[2::2])
+
+
+# ---- The tries ----
+
+def made(name, **environment):
+    """A package, and where it is."""
+    ran = subprocess.run([f"{TOP}/tools/package", f"{WORK}/{name}"], capture_output=True, text=True, timeout=PATIENCE, env={**os.environ, **environment})
+    same((ran.returncode, ran.stderr), (0, ""))
+    return ran.stdout.strip()
+
+
+def try_two_packages_have_the_same_bytes():
+    """Programs with other times, below another time zone and umask."""
+    one = made("package")
+    same(os.path.basename(one), f"lockd_{VERSION}_{subprocess.check_output(['dpkg', '--print-architecture'], text=True).strip()}.deb")
+    copies = {}
+    for name, program in ("LOCKD", os.environ["LOCKD"]), ("LOCKD_MOUNT", os.environ.get("LOCKD_MOUNT") or f"{TOP}/mount/out/lockd_mount"):
+        copies[name] = shutil.copy(program, f"{WORK}/{name.lower()}")
+    before = os.umask(0o077)
+    two = made("package_again", TZ="Asia/Tokyo", TMPDIR=WORK, **copies)
+    os.umask(before)
+    with open(one, "rb") as first, open(two, "rb") as second:
+        assert first.read() == second.read(), "the second package has other bytes"
+
+
+def the_package():
+    return glob.glob(f"{WORK}/package/*.deb")[0]
+
+
+def installs():
+    shutil.copy(the_package(), f"{ROOT}/tmp/lockd.deb")
+    ran = inside("dpkg", "--force-unsafe-io", "-i", "/tmp/lockd.deb")
+    os.remove(f"{ROOT}/tmp/lockd.deb")
+    same((ran.returncode, ran.stderr), (0, ""))
+
+
+def try_lintian_finds_no_error():
+    if not shutil.which("lintian"):
+        return "lintian isn't installed"
+    ran = subprocess.run(["lintian", "--allow-root", "--fail-on", "error", the_package()], capture_output=True, text=True, timeout=PATIENCE)
+    return same((ran.returncode, ran.stdout if ran.returncode else ""), (0, ""))
+
+
+def try_what_is_installed():
+    installs()
+    same(printed("dpkg-query", "-W", "-f", "${db:Status-Abbrev}${Version}", "lockd"), f"ii {VERSION}")
+    same(printed("lockd", "--version").split()[:2], ["lockd", VERSION])
+    same(printed("lockd_mount", "--version").split()[:2], ["lockd_mount", VERSION])
+    same(printed("bash", "-c", ". /usr/share/bash-completion/completions/lockd_mount && complete -p lockd lockd_mount").count("\n"), 2)
+    about = f"{ROOT}/usr/share/doc/lockd"
+    for page in "README.md", "docs/MOUNT.md", "docs/COMMANDS.md":
+        for link in re.findall(r"\]\((?!http)([^)#]+)", text_of(f"{about}/{page}")):
+            assert os.path.isfile(f"{about}/{os.path.dirname(page)}/{link}"), f"{page}: {link} isn't installed"
+    with gzip.open(f"{about}/changelog.gz", "rt", encoding="utf-8") as file:
+        same(file.readline(), f"lockd ({VERSION}) unstable; urgency=medium\n")
+
+
+def try_the_man_page_names_each_option():
+    with gzip.open(f"{ROOT}/usr/share/man/man8/lockd_mount.8.gz", "rt", encoding="utf-8") as file:
+        page = {*re.findall(r"--[a-z][a-z-]*", file.read().replace("\\-", "-"))}
+    same(sorted(page - {*re.findall(r"--[a-z][a-z-]*", printed("lockd_mount", "--help"))}), [])
+    same(sorted({*re.findall(r"--[a-z][a-z-]*", printed("lockd_mount", "--help"))} - page), [])
+
+
+def try_what_readme_says():
+    shell = Shell()
+    for command, wanted in [("cd /usr/share/doc/lockd", ""), *commands(f"{ROOT}/usr/share/doc/lockd/README.md", "Try it")]:
+        shell.follows(command, wanted)
+        if command.startswith("umount"):
+            until_all_have_ended()
+    shell.ends()
+    for it in glob.glob(f"{ROOT}/tmp/*"):
+        shutil.rmtree(it) if os.path.isdir(it) else os.remove(it)
+
+
+def try_what_mount_refuses():
+    os.makedirs(f"{ROOT}/srv/locks/file")
+    for option, status, said in [("ro", 1, "no option ro"), ("nothing=1", 1, "no option nothing=1"), ("fair=1", 1, "fair takes no value"),
+                                 ("mode", 1, "mode takes a value"), ("mode=9", 32, "nothing is mounted"), ("rw", 32, "isn't empty")]:
+        ran = inside("mount", "-t", "fuse.lockd", "-o", option, "none", "/srv/locks")
+        same((ran.returncode, said in ran.stderr, is_mounted("/srv/locks")), (status, True, False))
+    shutil.rmtree(f"{ROOT}/srv/locks")
+    until_all_have_ended()
+    same(glob.glob(f"{ROOT}/tmp/*"), [])
+
+
+def try_an_upgrade_while_a_lock_is_held():
+    """By a line of fstab, for a folder with a space in its name."""
+    os.makedirs(f"{ROOT}/srv/my locks")
+    put("etc/fstab", "none /srv/my\\040locks fuse.lockd allow_other,mode=1777,nofail,x-any=1,resume=/srv/trace 0 0\n")
+    printed("mount", "/srv/my locks")
+    same((is_mounted("/srv/my locks"), stat.S_IMODE(os.stat(f"{ROOT}/srv/my locks").st_mode)), (True, 0o1777))
+    job = "/srv/my locks/job"
+    with started("flock", job, "sh", "-c", "echo held; cat") as holder:
+        same(holder.stdout.readline(), b"held\n")
+        with started("flock", job, "echo", "got") as waiter:
+            waits = lambda: re.findall(r"^FLOCK +WRITE\*.* job$", printed("lockd_locks", "/srv/my locks"), re.M)
+            if os.path.exists(f"{ROOT}/usr/bin/python3"):
+                until(waits, "no process waits for the lock")
+            installs()
+            server, carrier = the_server()
+            assert is_of_before(server), "the program wasn't replaced"
+            printed("pkill", "-x", "-P", str(carrier), "lockd")
+            until(lambda: processes("lockd").keys() - {server}, "no other server was started")
+            same((the_server()[1], is_of_before(the_server()[0])), (carrier, False))
+            same((inside("flock", "-n", job, "true").returncode, waiter.poll()), (1, None))
+            holder.stdin.close()
+            same((waiter.wait(timeout=PATIENCE), waiter.stdout.read()), (0, b"got\n"))
+    printed("umount", "/srv/my locks")
+    until_all_have_ended()
+    trace, = glob.glob(f"{ROOT}/srv/trace.*")
+    with open(trace, "rb") as lines:
+        same(inside("lockd", "check", stdin=lines).stdout, "legal\n")
+    os.remove(trace)
+    os.remove(f"{ROOT}/etc/fstab")
+    os.rmdir(f"{ROOT}/srv/my locks")
+
+
+def words_of(unit, key, folder, name):
+    """The words of a command of a unit, as systemd makes them of its text."""
+    line = re.search(rf"^{key}=[-:]*(.*)$", text_of(unit), re.M)[1]
+    fill = {"%%": "%", "%f": folder, "%i": name}
+    return [re.sub("%.", lambda it: fill[it[0]], word) for word in shlex.split(line)]
+
+
+def try_what_the_template_unit_starts():
+    """For a folder whose path has to be escaped."""
+    folder, name = "/srv/it's \"my\" $HOME `x` %f", r"srv-it\x27s\x20\x22my\x22\x20\x24HOME\x20\x60x\x60\x20\x25f"
+    if shutil.which("systemd-escape"):
+        same(subprocess.check_output(["systemd-escape", "-p", folder], text=True).strip(), name)
+    unit = f"{ROOT}/usr/lib/systemd/system/lockd@.service"
+    os.mkdir(f"{ROOT}/var/lib/lockd")
+    printed(*words_of(unit, "ExecStartPre", folder, name))
+    with started(*words_of(unit, "ExecStart", folder, name)) as carrier:
+        same(carrier.stdout.readline().decode(), f"mounted at {folder}\n")
+        same((is_mounted(folder), len(glob.glob(f"{ROOT}/var/lib/lockd/{glob.escape(name)}.[0-9]*"))), (True, 1))
+        before = the_server()[0]
+        printed(*(str(carrier.pid) if it == "$MAINPID" else it for it in words_of(unit, "ExecReload", folder, name)))
+        until(lambda: processes("lockd").keys() - {before}, "no other server was started")
+        printed("flock", f"{folder}/job", "true")
+        carrier.terminate()
+        same((carrier.wait(timeout=PATIENCE), is_mounted(folder)), (0, False))
+    os.rmdir(f"{ROOT}{folder}")
+
+
+def try_systemd_takes_the_units():
+    if not shutil.which("systemd-analyze"):
+        return "systemd-analyze isn't installed"
+    there = f"{WORK}/units"
+    os.mkdir(there)
+    for name, unit in ("lockd", "lockd"), (r"lockd@srv-my\x20locks", "lockd@"):
+        text = text_of(f"{ROOT}/usr/lib/systemd/system/{unit}.service")
+        with open(f"{there}/{name}.service", "w", encoding="utf-8") as file:
+            file.write(text.replace("/usr/bin/lockd_mount", f"{ROOT}/usr/bin/lockd_mount"))
+        ran = subprocess.run(["systemd-analyze", "verify", "--man=no", f"{there}/{name}.service"], capture_output=True, text=True, timeout=PATIENCE)
+        same((ran.returncode, [it for it in ran.stderr.splitlines() if "lockd" in it]), (0, []))
+
+
+def try_nothing_is_left():
+    same(inside("dpkg", "--force-unsafe-io", "-P", "lockd").returncode, 0)
+    same(sorted(written() - BEFORE), [])
+    same(sorted(BEFORE - written()), [])
+
+
+def try_tools_install():
+    """Twice, and in the second place with a file that isn't ours."""
+    install = lambda *words: same(subprocess.run([f"{TOP}/tools/install", *words], capture_output=True, text=True, timeout=PATIENCE).stderr, "")
+    os.mkdir(f"{ROOT}/srv/locks")
+    for prefix in "/usr/local", "/srv/of/ours":
+        install(prefix, ROOT)
+        put(f"{prefix}/share/lockd/of_an_older_one", "")
+        with open(f"{ROOT}{prefix}/share/lockd/installed", "a", encoding="utf-8") as file:
+            file.write(f"{prefix}/share/lockd/of_an_older_one\n")
+        install(prefix, ROOT)
+        printed(f"{prefix}/sbin/mount.fuse.lockd", "none", "/srv/locks", "-o", "trace=none")
+        server, carrier = the_server()
+        same([os.readlink(f"/proc/{it}/exe") for it in (server, carrier)], [f"{ROOT}{prefix}/bin/{it}" for it in ("lockd", "lockd_mount")])
+        printed("flock", "/srv/locks/job", "true")
+        printed("umount", "/srv/locks")
+        until_all_have_ended()
+        install("--uninstall", prefix, ROOT)
+    os.rmdir(f"{ROOT}/srv/locks")
+    os.rmdir(f"{ROOT}/run/lockd_mount")
+    return try_nothing_is_left_here()
+
+
+def try_nothing_is_left_here():
+    same(sorted(written() - BEFORE), [])
+
+
+def main():
+    tries = [(name, it) for name, it in globals().items() if name.startswith("try_")]
+    failed = 0
+    for name, it in tries:
+        begun = time.monotonic()
+        try:
+            said = it()
+            if said or "-v" in sys.argv:
+                print(f"{name}: {said or 'passed'} ({time.monotonic() - begun:.1f} s)", flush=True)
+        except Exception as fault:
+            failed += 1
+            lines = ", ".join(str(it.lineno) for it in traceback.extract_tb(fault.__traceback__)[1:])
+            print(f"{name}: {type(fault).__name__}: {fault} (lines {lines})", flush=True)
+    print(f"{len(tries) - failed} passed, {failed} failed")
+    return 1 if failed else 0
+
+
+if __name__ == "__main__":
+    sys.exit(main())
