@@ -31,6 +31,10 @@ def text_of(path):
 VERSION = text_of(f"{TOP}/VERSION").strip()
 
 
+def printed_here(*words):
+    return subprocess.run(words, capture_output=True, text=True, check=True, timeout=PATIENCE).stdout
+
+
 # ---- The root folder ----
 
 def mount(*words):
@@ -59,7 +63,7 @@ def make_root():
             os.symlink(os.readlink(f"/{name}"), f"{ROOT}/{name}")
         elif os.path.isdir(f"/{name}"):
             over(name)
-    for name in "dev", "etc", "home", "proc", "root", "run", "srv", "tmp", "var", "var/lib":
+    for name in "dev", "etc", "home", "proc", "root", "run", "run/mount", "srv", "tmp", "var", "var/lib":
         os.mkdir(f"{ROOT}/{name}")
     os.chmod(f"{ROOT}/tmp", 0o1777)
     # What was installed on this machine by hand isn't there.
@@ -76,33 +80,31 @@ def make_root():
     os.symlink("/proc/self/mounts", f"{ROOT}/etc/mtab")
 
 
-def package_of_this_machine(name):
-    """What dpkg is told of a package that is installed on this machine."""
-    form = "".join(f"{it}: ${{{it}}}\n" for it in ("Package", "Status", "Architecture", "Version", "Maintainer", "Description", "Multi-Arch"))
-    ran = subprocess.run(["dpkg-query", "-W", "-f", form, name], capture_output=True, text=True, timeout=PATIENCE)
-    return "\n".join(it for it in ran.stdout.splitlines() if not it.endswith(": ")) + "\n\n"
-
-
 def make_dpkg(package):
-    """The packages that ours needs are installed in the root folder, as they are on this machine."""
+    """The packages that ours needs are installed in the root folder, as they are on this machine, but with no list of their files."""
     for name in "info", "updates", "triggers":
         os.makedirs(f"{ROOT}/var/lib/dpkg/{name}")
-    needed = subprocess.run(["dpkg-deb", "-f", package, "Depends"], capture_output=True, text=True, check=True, timeout=PATIENCE).stdout
-    put("var/lib/dpkg/status", "".join(package_of_this_machine(it) for it in re.findall(r"([a-z][a-z0-9.+-]+)(?: \([^)]*\))?(?:, |$)", needed.strip())))
+    needed = printed_here("dpkg-deb", "-f", package, "Depends")
+    names = re.findall(r"([a-z][a-z0-9.+-]+)(?: \(.*?\))?(?:, |$)", needed.strip())
+    fields = "Package", "Status", "Architecture", "Version", "Maintainer", "Description"
+    form = "".join(f"{it}: ${{{it}}}\n" for it in fields)
+    put("var/lib/dpkg/status", "".join(f"{printed_here('dpkg-query', '-W', '-f', form, it)}\n" for it in names))
+    for name in names:
+        put(f"var/lib/dpkg/info/{name}.list", "/.\n")
+
+
+def below(top, is_left_out=lambda path: False):
+    for at, folders, names in os.walk(top):
+        folders[:] = [it for it in folders if not is_left_out(f"{at}/{it}")]
+        yield from (f"{at}/{it}" for it in [*folders, *names])
 
 
 def written():
-    """What is in the root folder, and not on this machine, and what is missing of this machine. dpkg's own files don't count."""
-    found = set()
-    for top in (ROOT, f"{ROOT}/usr/local", *glob.glob(f"{UPPER}/*/upper")):
-        for at, folders, names in os.walk(top):
-            if top == ROOT:
-                folders[:] = [it for it in folders if not os.path.ismount(f"{at}/{it}") and f"{at}/{it}" != f"{ROOT}/var/lib/dpkg"]
-            lower = f"/{os.path.relpath(at, UPPER).replace('/upper', '', 1)}"
-            is_new = top != f"{UPPER}/{top.split('/')[-2]}/upper" or not os.path.isdir(lower)
-            found.update(f"{at}/{it}" for it in names)
-            if is_new:
-                found.add(at)
+    """What is in the root folder and not on this machine, and what is missing of this machine. The files of dpkg and of mount(8) don't count."""
+    found = {*below(ROOT, lambda path: os.path.ismount(path) or path in (f"{ROOT}/var/lib/dpkg", f"{ROOT}/run/mount")), *below(f"{ROOT}/usr/local")}
+    for upper in glob.glob(f"{UPPER}/*/upper"):
+        name = os.path.basename(os.path.dirname(upper))
+        found.update(it for it in below(upper) if os.path.islink(it) or not os.path.isdir(it) or not os.path.isdir(f"/{name}{it[len(upper):]}"))
     return found
 
 
@@ -221,7 +223,7 @@ def made(name, **environment):
 def try_two_packages_have_the_same_bytes():
     """Programs with other times, below another time zone and umask."""
     one = made("package")
-    same(os.path.basename(one), f"lockd_{VERSION}_{subprocess.check_output(['dpkg', '--print-architecture'], text=True).strip()}.deb")
+    same(os.path.basename(one), f"lockd_{VERSION}_{printed_here('dpkg', '--print-architecture').strip()}.deb")
     copies = {}
     for name, program in ("LOCKD", os.environ["LOCKD"]), ("LOCKD_MOUNT", os.environ.get("LOCKD_MOUNT") or f"{TOP}/mount/out/lockd_mount"):
         copies[name] = shutil.copy(program, f"{WORK}/{name.lower()}")
@@ -237,6 +239,8 @@ def the_package():
 
 
 def installs():
+    if not os.path.exists(f"{ROOT}/var/lib/dpkg"):
+        make_dpkg(the_package())
     shutil.copy(the_package(), f"{ROOT}/tmp/lockd.deb")
     ran = inside("dpkg", "--force-unsafe-io", "-i", "/tmp/lockd.deb")
     os.remove(f"{ROOT}/tmp/lockd.deb")
@@ -336,7 +340,7 @@ def try_what_the_template_unit_starts():
     """For a folder whose path has to be escaped."""
     folder, name = "/srv/it's \"my\" $HOME `x` %f", r"srv-it\x27s\x20\x22my\x22\x20\x24HOME\x20\x60x\x60\x20\x25f"
     if shutil.which("systemd-escape"):
-        same(subprocess.check_output(["systemd-escape", "-p", folder], text=True).strip(), name)
+        same(printed_here("systemd-escape", "-p", folder).strip(), name)
     unit = f"{ROOT}/usr/lib/systemd/system/lockd@.service"
     os.mkdir(f"{ROOT}/var/lib/lockd")
     printed(*words_of(unit, "ExecStartPre", folder, name))
@@ -367,8 +371,11 @@ def try_systemd_takes_the_units():
 
 def try_nothing_is_left():
     same(inside("dpkg", "--force-unsafe-io", "-P", "lockd").returncode, 0)
-    same(sorted(written() - BEFORE), [])
-    same(sorted(BEFORE - written()), [])
+    is_as_before()
+
+
+def is_as_before():
+    same(sorted(written() ^ BEFORE), [])
 
 
 def try_tools_install():
@@ -390,11 +397,17 @@ def try_tools_install():
         install("--uninstall", prefix, ROOT)
     os.rmdir(f"{ROOT}/srv/locks")
     os.rmdir(f"{ROOT}/run/lockd_mount")
-    return try_nothing_is_left_here()
+    is_as_before()
 
 
-def try_nothing_is_left_here():
-    same(sorted(written() - BEFORE), [])
+def begins():
+    """The root folder, with what it has before anything is installed."""
+    try:
+        make_root()
+    except subprocess.CalledProcessError as error:
+        print(f"try_package: not tried: {error.stderr.decode().strip()}", file=sys.stderr)
+        sys.exit(NOT_TRIED)
+    return written()
 
 
 def main():
@@ -415,4 +428,5 @@ def main():
 
 
 if __name__ == "__main__":
+    BEFORE = begins()
     sys.exit(main())
