@@ -1,12 +1,12 @@
 """What tools/try_package runs in its namespace: each function whose name begins with `try_` is one thing that is tried, in this order."""
-import contextlib, glob, gzip, os, re, shlex, shutil, stat, subprocess, sys, time, traceback
+import contextlib, glob, gzip, os, re, shlex, shutil, stat, subprocess, sys, tempfile, time, traceback
 
 sys.dont_write_bytecode = True
 TOP = os.path.dirname(os.path.dirname(os.path.abspath(__file__)))
 WORK = os.environ["TRY_PACKAGE_WORK"]
 ROOT = f"{WORK}/root"
 UPPER = f"{WORK}/written"
-PATIENCE = 60  # seconds that a step may take
+PATIENCE = 120  # seconds that a step may take: the gate may run on a slow machine
 NOT_TRIED = 77
 # No variable of this machine goes into the root folder.
 ENVIRONMENT = {"PATH": "/usr/local/sbin:/usr/local/bin:/usr/sbin:/usr/bin:/sbin:/bin", "HOME": "/root", "LANG": "C.UTF-8"}
@@ -84,11 +84,11 @@ def make_dpkg(package):
     """The packages that ours needs are installed in the root folder, as they are on this machine, but with no list of their files."""
     for name in "info", "updates", "triggers":
         os.makedirs(f"{ROOT}/var/lib/dpkg/{name}")
-    needed = printed_here("dpkg-deb", "-f", package, "Depends")
+    needed, native = printed_here("dpkg-deb", "-f", package, "Depends"), printed_here("dpkg", "--print-architecture").strip()
     names = re.findall(r"([a-z][a-z0-9.+-]+)(?: \(.*?\))?(?:, |$)", needed.strip())
     fields = "Package", "Status", "Architecture", "Version", "Maintainer", "Description"
     form = "".join(f"{it}: ${{{it}}}\n" for it in fields)
-    put("var/lib/dpkg/status", "".join(f"{printed_here('dpkg-query', '-W', '-f', form, it)}\n" for it in names))
+    put("var/lib/dpkg/status", "".join(f"{printed_here('dpkg-query', '-W', '-f', form, f'{it}:{native}')}\n" for it in names))
     for name in names:
         put(f"var/lib/dpkg/info/{name}.list", "/.\n")
 
@@ -221,14 +221,16 @@ def made(name, **environment):
 
 
 def try_two_packages_have_the_same_bytes():
-    """Programs with other times, below another time zone and umask."""
+    """Of a second build of lockd_mount, with other times, time zone and umask."""
     one = made("package")
     same(os.path.basename(one), f"lockd_{VERSION}_{printed_here('dpkg', '--print-architecture').strip()}.deb")
-    copies = {}
-    for name, program in ("LOCKD", os.environ["LOCKD"]), ("LOCKD_MOUNT", os.environ.get("LOCKD_MOUNT") or f"{TOP}/mount/out/lockd_mount"):
-        copies[name] = shutil.copy(program, f"{WORK}/{name.lower()}")
+    lockd = shutil.copy(os.environ["LOCKD"], f"{WORK}/lockd")
+    if os.environ.get("LOCKD_MOUNT"):
+        shutil.copy(os.environ["LOCKD_MOUNT"], f"{WORK}/lockd_mount")
+    else:
+        subprocess.run([f"{TOP}/mount/build", f"{WORK}/lockd_mount"], check=True, timeout=PATIENCE)
     before = os.umask(0o077)
-    two = made("package_again", TZ="Asia/Tokyo", TMPDIR=WORK, **copies)
+    two = made("package_again", TZ="Asia/Tokyo", TMPDIR=WORK, LOCKD=lockd, LOCKD_MOUNT=f"{WORK}/lockd_mount")
     os.umask(before)
     with open(one, "rb") as first, open(two, "rb") as second:
         assert first.read() == second.read(), "the second package has other bytes"
@@ -344,7 +346,7 @@ def try_what_the_template_unit_starts():
     unit = f"{ROOT}/usr/lib/systemd/system/lockd@.service"
     os.mkdir(f"{ROOT}/var/lib/lockd")
     printed(*words_of(unit, "ExecStartPre", folder, name))
-    with started(*words_of(unit, "ExecStart", folder, name)) as carrier:
+    with started(*words_of(unit, "ExecStart", folder, name), stderr=subprocess.DEVNULL) as carrier:
         same(carrier.stdout.readline().decode(), f"mounted at {folder}\n")
         same((is_mounted(folder), len(glob.glob(f"{ROOT}/var/lib/lockd/{glob.escape(name)}.[0-9]*"))), (True, 1))
         before = the_server()[0]
@@ -400,6 +402,57 @@ def try_tools_install():
     is_as_before()
 
 
+# ---- systemd itself ----
+
+INIT = "/lib/systemd/systemd"
+START = """
+echo $$ > {group}/cgroup.procs
+exec unshare --cgroup --mount --uts --ipc --propagation private --pid --fork --kill-child sh -c '
+    mount -t proc proc {root}/proc && mount -t sysfs -o ro sysfs {root}/sys && mount -t cgroup2 cgroup2 {root}/sys/fs/cgroup &&
+    mount --rbind {root}/dev {root}/dev && exec chroot {root} {init} --unit=tried.target --log-target=null --show-status=0'
+"""
+TARGET = "[Unit]\nRequires=tried.service\n"
+SERVICE = """[Unit]
+DefaultDependencies=no
+[Service]
+ExecStart=/bin/bash /root/tried.sh
+StandardOutput=file:/root/tried.out
+StandardError=file:/root/tried.out
+"""
+WRITTEN = r"""lockd.service: locked
+lockd@srv-my\x20locks.service: locked
+after a reload: held
+after an upgrade: held
+at the end: free
+fstab: locked
+fstab: unmounted
+removed
+0
+"""
+
+
+def try_systemd_itself():
+    """It is the first process of a namespace, in the root folder, with a group of processes of its own."""
+    groups = [line.split()[4] for line in text_of("/proc/self/mountinfo").splitlines() if " - cgroup2 " in line]
+    if not groups or not os.path.exists(f"{ROOT}{INIT}"):
+        return "there is no systemd, or no cgroup2"
+    installs()
+    shutil.copy(the_package(), f"{ROOT}/srv/lockd.deb")
+    shutil.copy(f"{TOP}/tools/try_package_systemd.sh", f"{ROOT}/root/tried.sh")
+    for folder in "etc/systemd/system", "srv/by fstab", "sys", "var/tmp":
+        os.makedirs(f"{ROOT}/{folder}")
+    for path, text in {"etc/systemd/system/tried.target": TARGET, "etc/systemd/system/tried.service": SERVICE, "etc/machine-id": "1" * 32 + "\n",
+                       "etc/fstab": "none /srv/by\\040fstab fuse.lockd allow_other,mode=1777,noauto,resume=/srv/trace 0 0\n"}.items():
+        put(path, text)
+    group = tempfile.mkdtemp(prefix="try_package.", dir=groups[0])
+    try:
+        subprocess.run(["sh", "-c", START.format(group=group, root=ROOT, init=INIT)], timeout=PATIENCE, env={**ENVIRONMENT, "container": "chroot"})
+    finally:
+        for at, _, _ in os.walk(group, topdown=False):
+            os.rmdir(at)
+    return same(text_of(f"{ROOT}/root/tried.out"), WRITTEN)
+
+
 def begins():
     """The root folder, with what it has before anything is installed."""
     try:
@@ -411,7 +464,7 @@ def begins():
 
 
 def main():
-    tries = [(name, it) for name, it in globals().items() if name.startswith("try_")]
+    tries = [(name, it) for name, it in globals().items() if name.startswith("try_") and (it != try_systemd_itself or "--systemd" in sys.argv)]
     failed = 0
     for name, it in tries:
         begun = time.monotonic()
