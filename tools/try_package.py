@@ -6,7 +6,7 @@ TOP = os.path.dirname(os.path.dirname(os.path.abspath(__file__)))
 WORK = os.environ["TRY_PACKAGE_WORK"]
 ROOT = f"{WORK}/root"
 UPPER = f"{WORK}/written"
-PATIENCE = 120  # seconds that a step may take: the gate may run on a slow machine
+PATIENCE = 300  # seconds that a step may take: the gate may run on a slow machine
 NOT_TRIED = 77
 # No variable of this machine goes into the root folder.
 ENVIRONMENT = {"PATH": "/usr/local/sbin:/usr/local/bin:/usr/sbin:/usr/bin:/sbin:/bin", "HOME": "/root", "LANG": "C.UTF-8"}
