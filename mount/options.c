@@ -24,7 +24,7 @@ static const char HELP[] =
     "                        lock is lost; with one worker, and without --trace\n"
     "  --trace-full WORD     what the server does while the trace can't be written: go-on or refuse; with --resume, wait\n"
     "                        or end\n"
-    "  --times FILE          a new file for the times of requests and replies, for tools/lockd_report\n"
+    "  --times FILE          a new file for the times of requests and replies, for lockd_report\n"
     "  --fair, --runs N, --parked N, --files N, --open N\n"
     "                        the rules of the server, as `lockd serve --help` says\n"
     "  --no-check            don't judge the trace\n"
