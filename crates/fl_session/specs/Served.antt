@@ -61,6 +61,6 @@ pub record IsAheadFrom (first : Session) (streams : Streams) (stored : List Line
 abbrev pub IsAheadBehind : Rules → List Line → Streams → List Line → Type 0
 IsAheadBehind rules base streams stored = IsAheadFrom (session_behind rules base true) streams stored
 
--- the same of a session behind these lines to which each message is new
-abbrev pub IsAhead : Rules → List Line → Streams → List Line → Type 0
-IsAhead rules base streams stored = IsAheadFrom (session_behind rules base false) streams stored
+-- the same of a session behind no lines, to which each message is new
+abbrev pub IsAhead : Rules → Streams → List Line → Type 0
+IsAhead rules streams stored = IsAheadFrom (opening_session rules) streams stored

@@ -77,7 +77,7 @@ pub fn record_session<R: Read, W: Write, J: Journal + Drop>(
       held = W.contents w.old;
       held_now = W.contents w.new;
     }) result.1 (done_of J.lines result.0) }
-    ensures ahead { IfSome result.0.journal (λ journal. IsAhead rules [] (record {
+    ensures ahead { IfSome result.0.journal (λ journal. IsAhead rules (record {
       left = R.remaining r.old;
       left_now = R.remaining r.new;
       held = W.contents w.old;

@@ -75,6 +75,15 @@ BATCH_FORGET of nodes 9, 2 and 8, twice; a FORGET of node 9 of the same unique, 
 0100000000000000
 = ask 0 5 2 0 0 0 forget 1
 = ask 0 5 8 0 0 0 forget 1
+# an INTERRUPT that took a request out is not asked again
+INTERRUPT of the SETLKW, twice.
+> 30000000240000000900000000000080000000000000000000000000000000000000000000000000\
+0400000000000000
+> 30000000240000000900000000000080000000000000000000000000000000000000000000000000\
+0400000000000000
+< 10000000fcffffff0400000000000000
+= ask 0 9 0 0 0 0 interrupt 4
+= tell 4 err 4
 # what the session itself answers has the unique without the bit
 An opcode of nothing.
 > 28000000ffff00000700000000000080000000000000000000000000000000000000000000000000
@@ -138,5 +147,5 @@ fn messages_that_are_sent_again(rt: HostRuntime) {
         is_answered(&rt, rt.alloc(), case);
         count = count.saturating_add(1);
     }
-    count_is(&rt, count, 6);
+    count_is(&rt, count, 7);
 }
