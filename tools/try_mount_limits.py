@@ -1,5 +1,5 @@
 """Limits of a mount: how many files, open files, locks and waiting requests; where the trace goes."""
-import fcntl, os, subprocess, tempfile, time
+import fcntl, os, subprocess, tempfile, threading, time
 from try_mount_kit import *
 
 
@@ -191,19 +191,38 @@ def try_a_full_trace_is_said_while_it_runs():
 
 
 def try_a_full_trace_may_refuse_locks():
-    """Once the server has no room for more lines, until the disk has: then nothing is lost."""
+    """While the disk is full, the call whose lines can't be written waits, and others are refused. Once it has room, all go on."""
     disk = tempfile.mkdtemp(dir=WORK)
     subprocess.run(["mount", "-t", "tmpfs", "-o", "size=4k", "none", disk], check=True, timeout=PATIENCE)
     mount = Mount("--trace", f"{disk}/trace", "--trace-full", "refuse")
-    fd = os.open(f"{mount.folder}/job", os.O_RDWR | os.O_CREAT)
-    until(lambda: "ENOMEM" in [outcome(fcntl.flock, fd, ALONE) for _ in range(100)], 5 * PATIENCE)
-    same(outcome(fcntl.flock, fd, NOT_HELD), "ENOMEM")
+    fds = [os.open(f"{mount.folder}/job", os.O_RDWR | os.O_CREAT) for _ in range(2)]
+    said, over = [set(), set()], threading.Event()
+
+    def lock(fd, said):
+        while not over.is_set():
+            said.add(outcome(fcntl.flock, fd, SHARED))
+
+    lockers = [threading.Thread(target=lock, args=it, daemon=True) for it in zip(fds, said)]
+    for it in lockers:
+        it.start()
+    until(lambda: "ENOMEM" in said[0] | said[1], 5 * PATIENCE)
     subprocess.run(["mount", "-i", "-o", "remount,size=9m", disk], check=True, timeout=PATIENCE)
-    until(lambda: outcome(fcntl.flock, fd, NOT_HELD) is None)
+    for it in said:
+        it.clear()
+    until(lambda: None in said[0] and None in said[1])
+    over.set()
+    for it in lockers:
+        it.join(PATIENCE)
+    for fd in fds:
+        same(outcome(fcntl.flock, fd, NOT_HELD), None)
+        os.close(fd)
     shell(mount, "flock -n job echo in", "in")
-    os.close(fd)
     same(mount.end(), (0, "legal"))
     unmount(disk)
+
+
+def try_one_worker_cannot_refuse():
+    contains(refusal("--workers", "1", "--trace-full", "refuse", folder=tempfile.mkdtemp(dir=WORK)), "two workers or more")
 
 
 def try_a_limit_of_a_file_ends_no_server():

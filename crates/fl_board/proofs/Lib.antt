@@ -4,3 +4,4 @@ mod Counts
 mod Histories
 mod Refusing
 mod Rows
+mod Storing

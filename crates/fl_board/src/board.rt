@@ -1,13 +1,14 @@
 //! The board: workers with seats hand in orders under one lock, and look without it. One history of all orders is kept.
 
 ghost use Rattle.std.specs.Prelude.{◌≡◌, ◌<◌, ◌≤◌, ◌+◌, ◌↔◌, ◌⊎◌, [], ◌∷◌, true, Err, List, All, IfOk, IfErr, IfSome};
-ghost use Rattle.std.specs.Prelude.{IsSome, OnOk, OnErr, length, map, sum_by};
+ghost use Rattle.std.specs.Prelude.{IsSome, IsTrue, OnOk, OnErr, length, map, sum_by};
 ghost use Rattle.std.specs.List.{range_with_len};
 ghost use Rattle.fl_board.specs.Refused.{CantClose, FallsShort};
 ghost use Rattle.fl_board.specs.Seats.{AreApart};
 ghost use Rattle.fl_board.specs.Shown.{AreHandedIn, HasAllOf, HaveMet, IsHandedIn, IsShown, KeepsHanded};
 ghost use Rattle.fl_core.specs.Tolds.{HasRoom};
 ghost use Rattle.fl_desk.specs.Legal.{IsLegal, LeavesLawful, orders_asked};
+ghost use Rattle.fl_desk.specs.Stored.{IsStored};
 ghost use Rattle.fl_order.specs.Order.{only_reads};
 
 use crate::asks::asks_lead;
@@ -20,8 +21,13 @@ use fl_log::{Beginning, FreshLog};
 use fl_order::{Answer, Errno, NoMemory, Order};
 use fl_replica::{Ask, BoardName, ReplicaWriter};
 use std::alloc::{AllocError, Global};
+use std::sync::atomic::AtomicU64;
 use std::sync::ledger::{Blank, Share};
 use std::sync::{Mutex, Wait};
+use std::time::Duration;
+
+// How many milliseconds it is until lines that couldn't be stored are stored again.
+const PAUSE: u64 = 100;
 
 /// A board of 1 to 16 workers, whose lines go to a journal: they stay in memory, if nothing else is said.
 #[derive(Drop)]
@@ -124,8 +130,9 @@ impl<L: BoardName, R: Wait + Drop, J: Journal> Board<L, R, J> {
     }
 
     /// Takes an order of the seat's worker, as `Desk::take` does: records it, answers it, and hands out the replies
-    /// that it records. A refusal changes no line, lock, count or seat. `NoView` comes if the history doesn't begin
-    /// with all that the worker handed in or was shown, has 2^62 orders, or isn't all that was logged.
+    /// that it records. If lines must be stored before replies leave, it waits until its own are. A refusal changes no
+    /// line, lock, count or seat. `NoView` comes if the history doesn't begin with all that the worker handed in or was
+    /// shown, has 2^62 orders, or isn't all that was logged.
     pub fn hand_in<W: Wait>(
         &self,
         rt: &W,
@@ -136,17 +143,28 @@ impl<L: BoardName, R: Wait + Drop, J: Journal> Board<L, R, J> {
         requires { HasRoom L.rules tolds.old }
         ensures worker { seat.new.worker ≡ seat.old.worker }
         ensures handed { OnOk result (IsHandedIn L.rules seat.old order.now tolds.new.told seat.new) }
+        ensures stored { OnOk result (IsStored J.stored seat.new.own) }
         ensures room { tolds.new.room ≡ tolds.old.room }
         ensures refused { OnErr result ((seat.new ≡ seat.old) × (tolds.new ≡ tolds.old)) }
     {
-        let mut shared = self.shared.lock(rt);
-        shared.hand_in(seat, order, tolds)
+        let (taken, stored) = {
+            let mut shared = self.shared.lock(rt);
+            let taken = shared.hand_in(seat, order, tolds);
+            let stored = taken.is_err() || shared.store(seat);
+            (taken, stored)
+        };
+        if !stored {
+            self.wait_until_stored(rt, seat);
+        }
+        taken
     }
 
     /// Takes orders of the seat's worker one after another under one lock, each as `hand_in` does, and then publishes
-    /// them together. It hands out the replies to each in `lists`, in the place of those before; `tolds` has room for
-    /// those to one. It may end before it took all, when there may be no room for the replies to one more or no place
-    /// for their list. It takes one at least, or is refused. What is refused is the first order that has no list.
+    /// them together. If lines must be stored before replies leave, it waits until those of all that it took are:
+    /// meanwhile others hand in, or are refused. It hands out the replies to each in `lists`, in the place of those
+    /// before; `tolds` has room for those to one. It may end before it took all, when there may be no room for the
+    /// replies to one more or no place for their list. It takes one at least, or is refused. What is refused is the
+    /// first order that has no list.
     pub fn hand_in_all<W: Wait>(
         &self,
         rt: &W,
@@ -160,11 +178,42 @@ impl<L: BoardName, R: Wait + Drop, J: Journal> Board<L, R, J> {
         ensures room { tolds.new.room ≡ tolds.old.room }
         ensures lists { (lists.new.room ≡ lists.old.room) × (lists.new.places ≡ lists.old.places) }
         ensures handed { AreHandedIn L.rules seat.old orders.now lists.new.lists seat.new }
+        ensures stored { 0 < length lists.new.lists → IsStored J.stored seat.new.own }
         ensures some { OnOk result (0 < length orders.now → 0 < length lists.new.lists) }
         ensures refused { OnErr result (length lists.new.lists < length orders.now) }
     {
+        let (taken, stored) = {
+            let mut shared = self.shared.lock(rt);
+            let taken = shared.hand_in_all(seat, orders, tolds, lists);
+            let stored = lists.count() == 0 || shared.store(seat);
+            (taken, stored)
+        };
+        if !stored {
+            self.wait_until_stored(rt, seat);
+        }
+        taken
+    }
+
+    // Waits until all that was handed in through a seat is stored, or need not be. Others hand in meanwhile, or are
+    // refused.
+    fn wait_until_stored<W: Wait>(&self, rt: &W, seat: &Seat<L>)
+        ensures { IsStored J.stored seat.now.own }
+    {
+        for _ in rt.forever() {
+            pause(rt);
+            if self.is_stored(rt, seat) {
+                return;
+            }
+        }
+        unreachable!()
+    }
+
+    // Tries again to store lines, and says whether all that was handed in through a seat is stored, or need not be.
+    fn is_stored<W: Wait>(&self, rt: &W, seat: &Seat<L>) -> bool
+        ensures { IsTrue result → IsStored J.stored seat.now.own }
+    {
         let mut shared = self.shared.lock(rt);
-        shared.hand_in_all(seat, orders, tolds, lists)
+        shared.store(seat)
     }
 
     /// As `Seat::look`: it needs nothing of the board but what is published.
@@ -276,6 +325,11 @@ impl<L: BoardName, R: Wait + Drop> Board<L, R> {
             Err(fault) => Err(fault),
         }
     }
+}
+
+// Waits a while before lines are stored again.
+fn pause<W: Wait>(rt: &W) {
+    AtomicU64::new(0).park_timeout(rt, 0, Duration::from_millis(PAUSE));
 }
 
 // A seat for each worker, with a part of the ledger.

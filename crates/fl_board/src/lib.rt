@@ -1,19 +1,22 @@
 //! A board at which workers hand orders in under one lock, and look without it.
 //!
-//! `hand_in`, `hand_in_all`, `meet` and `pause` wait for the lock. A publication, and letting the writer go, wait for
-//! readers of a replica: so `new`, `over`, `hand_in`, `hand_in_all`, `close` and `into_kept` may wait too. In all but
-//! `hand_in` and `hand_in_all` nobody reads then, as their code shows. `Board::look` counts as a call that may wait,
-//! since it is given a board. `Seat::look` has no right to wait.
+//! `hand_in`, `hand_in_all`, `meet` and `pause` wait for the lock. `hand_in` and `hand_in_all` also wait, without the
+//! lock, until what they took is stored, if its journal has it that replies wait for their lines. A publication, and
+//! letting the writer go, wait for readers of a replica: so `new`, `over`, `hand_in`, `hand_in_all`, `close` and
+//! `into_kept` may wait too. In all but `hand_in` and `hand_in_all` nobody reads then, as their code shows.
+//! `Board::look` counts as a call that may wait, since it is given a board. `Seat::look` has no right to wait.
 //!
-//! No contract says what `pause` does, nor that a call which waits for the lock returns. Callers don't see what lies
-//! under the lock, so no contract limits when `hand_in` or `hand_in_all` says `NoView`. `meet` and `close` don't say it
-//! while no seat has handed in or was shown anything, and the seats are apart. Contracts let through:
+//! No contract says what `pause` does, nor that a call which waits for the lock or for lines returns. Callers don't see
+//! what lies under the lock, so no contract limits when `hand_in` or `hand_in_all` says `NoView`. `meet` and `close`
+//! don't say it while no seat has handed in or was shown anything, and the seats are apart. Contracts let through:
 //! - a `look`, `hand_in` or `hand_in_all` that always says `NoView`, a `new` that is always refused, and a `meet` or
 //!   `close` that says `NoView` once something was handed in or shown;
 //! - a `hand_in_all` that always ends behind its first order, is refused where it may end, or takes the lock or
 //!   publishes for each order;
+//! - one that waits for its lines under the lock;
 //! - a `hand_in` or `hand_in_all` that ends publication as if memory had run out: then every later look is `NoView`.
-//! `fl_board_tests` refuses these, the last by `a_seat_without_the_right_to_wait_is_shown_each_order`.
+//! `fl_board_tests` refuses these, the last by `a_seat_without_the_right_to_wait_is_shown_each_order`. It doesn't see a
+//! `hand_in_all` that stores its lines only once it has let the lock go, so that others may take orders in between.
 #![tactic(auto)]
 
 mod asks;

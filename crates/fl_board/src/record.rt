@@ -1,11 +1,12 @@
 //! What is recorded under a board's lock.
 
 ghost use Rattle.std.specs.Prelude.{◌≡◌, ◌<◌, ◌≤◌, ◌^◌, ◌+◌, ◌++◌, ◌∷◌, [], Err, Some, length};
-ghost use Rattle.std.specs.Prelude.{IfOk, IfSome, OnOk, OnErr, MatchResult, List};
+ghost use Rattle.std.specs.Prelude.{IfOk, IfSome, OnOk, OnErr, MatchResult, IsTrue, List};
 ghost use Rattle.fl_board.specs.Inside.Asks.{history_of};
 ghost use Rattle.fl_board.specs.Shown.{AreHandedIn, IsHandedIn};
 ghost use Rattle.fl_core.specs.Tolds.{HasRoom};
 ghost use Rattle.fl_desk.specs.Legal.{IsLegal, LeavesLawful, orders_asked};
+ghost use Rattle.fl_desk.specs.Stored.{IsStored};
 ghost use Rattle.fl_log.specs.Longer.{IsLonger};
 ghost use Rattle.fl_replica.specs.Asks.{ask_of};
 ghost use Rattle.fl_replica.specs.declared.ask.Ask.{Ask as Handed};
@@ -17,7 +18,7 @@ use fl_desk::{Desk, HandFault, MOST_IN_ROW, ToldLists};
 use fl_history::Journal;
 use fl_log::{Beginning, FreshLog, Log, MOST_ENTRIES};
 use fl_order::{NoMemory, Order};
-use fl_replica::{AsAsk, Ask, Asking, BoardName, ReplicaWriter, Update};
+use fl_replica::{AsAsk, Ask, Asking, BoardName, ReplicaWriter};
 use std::alloc::Global;
 use std::marker::Model;
 use std::sync::Wait;
@@ -125,7 +126,7 @@ impl<L: BoardName, R: Wait + Drop, J: Journal> Record<L, R, J> {
             unreachable!();
         }
         book.add(&mut seat.share, 1);
-        writer.add(Update::new(*order, tolds.own_alone(order), before, all.again()));
+        writer.add(order, tolds.own_alone(order), &before, all);
         seat.own = all.again();
         Ok(())
     }
@@ -167,6 +168,15 @@ impl<L: BoardName, R: Wait + Drop, J: Journal> Record<L, R, J> {
         ensures shown { IfSome self.new.shown (λ shown. shown ≡ self.new.asks) }
     {
         self.writer.publish();
+    }
+
+    /// Stores the desk's lines if they must be stored before replies leave, and says whether that is so.
+    #[tactic(auto, using(crate::proofs::Storing::same_stored))]
+    pub(crate) fn store(&mut self) -> bool
+        ensures same { self.new ≡ self.old }
+        ensures stored { IsTrue result → IsStored J.stored (history_of L.rules self.new.asks) }
+    {
+        self.desk.store()
     }
 
     /// Flushes the desk's journal: no order is at hand.

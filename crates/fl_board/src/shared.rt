@@ -1,13 +1,14 @@
 //! What lies under a board's lock.
 
 ghost use Rattle.std.specs.Prelude.{◌≡◌, ◌≢◌, ◌↔◌, ◌≤◌, ◌<◌, ◌^◌, ◌+◌, ◌∷◌, [], true, false, All, length};
-ghost use Rattle.std.specs.Prelude.{IfOk, OnOk, OnErr};
+ghost use Rattle.std.specs.Prelude.{IfOk, OnOk, OnErr, IsTrue};
 ghost use Rattle.fl_board.specs.Inside.Asks.{HasMostOf, history_of};
 ghost use Rattle.fl_board.specs.Refused.{BeginsWith, FallsShort};
 ghost use Rattle.fl_board.specs.Seats.{AreApart};
 ghost use Rattle.fl_board.specs.Shown.{AreHandedIn, HaveMet, IsHandedIn, KeepsHanded};
 ghost use Rattle.fl_core.specs.Tolds.{HasRoom};
 ghost use Rattle.fl_desk.specs.Legal.{IsLegal, LeavesLawful, orders_asked};
+ghost use Rattle.fl_desk.specs.Stored.{IsStored};
 
 use crate::asks::asks_lead;
 use crate::record::Record;
@@ -133,6 +134,16 @@ impl<L: BoardName, R: Wait + Drop, J: Journal> Shared<L, R, J> {
             }
         }
         true
+    }
+
+    /// Stores the desk's lines if they must be stored before replies leave, and says whether all that was handed in
+    /// through a seat is stored.
+    #[tactic(auto, using(crate::proofs::Storing::front_stored))]
+    pub(crate) fn store(&mut self, seat: &Seat<L>) -> bool
+        ensures same { self.new ≡ self.old }
+        ensures stored { IsTrue result → IsStored J.stored seat.now.own }
+    {
+        self.record.store() && seat.begins(&self.record.all)
     }
 
     /// Flushes the desk's journal: no order is at hand.

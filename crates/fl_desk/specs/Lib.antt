@@ -6,4 +6,5 @@ pub mod Leading
 pub mod Legal
 pub mod Lists
 pub mod Replay
+pub mod Stored
 pub mod Verdicts

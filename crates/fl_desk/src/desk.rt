@@ -8,6 +8,7 @@ ghost use Rattle.fl_core.specs.Step.{next, replies_in};
 ghost use Rattle.fl_core.specs.Tolds.{HasRoom};
 ghost use Rattle.fl_desk.specs.Legal.{IsLegal, LeavesLawful, step_lines};
 ghost use Rattle.fl_desk.specs.Kept.{IsKept, opening_book};
+ghost use Rattle.fl_desk.specs.Stored.{IsStored};
 ghost use Rattle.fl_waiting.specs.Waiting.{is_parked};
 
 use fl_core::{Core, Rules, Tolds};
@@ -132,6 +133,18 @@ impl<J: Journal> Desk<J> {
         ensures all { IsTrue result → self.new.stored ≡ self.new.lines }
     {
         self.kept.flush()
+    }
+
+    /// Stores all lines if they must be stored before replies leave, and says whether that is so. Neither lines nor
+    /// what is there change.
+    pub fn store(&mut self) -> bool
+        ensures lines { self.new.lines ≡ self.old.lines }
+        ensures present { self.new.present ≡ self.old.present }
+        ensures stored { IsPrefix self.old.stored self.new.stored }
+        ensures all { IsTrue result → self.new.stored ≡ self.new.lines }
+        ensures there { IsTrue result → IsStored J.stored self.new.lines }
+    {
+        self.kept.store()
     }
 
     /// Its journal, with the lines of all that it took. They are legal under its rules, and no two owners have

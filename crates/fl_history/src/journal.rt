@@ -48,6 +48,13 @@ pub trait Journal {
         ensures lines { lines self.new ≡ lines self.old }
         ensures stored { IsPrefix (stored self.old) (stored self.new) }
         ensures all { IsTrue result → stored self.new ≡ lines self.new };
+
+    /// Stores all lines if they must be stored before replies leave, and says whether that is so: they are stored, or
+    /// need not be. No line changes.
+    fn store(&mut self) -> bool
+        ensures lines { lines self.new ≡ lines self.old }
+        ensures stored { IsPrefix (stored self.old) (stored self.new) }
+        ensures all { IsTrue result → stored self.new ≡ lines self.new };
 }
 
 /// Lines that stay in memory.
@@ -75,6 +82,11 @@ impl Journal for Lines {
 
     #[tactic(auto, using(crate::proofs::Prefixes::of_itself))]
     fn flush(&mut self) -> bool {
+        true
+    }
+
+    #[tactic(auto, using(crate::proofs::Prefixes::of_itself))]
+    fn store(&mut self) -> bool {
         true
     }
 }

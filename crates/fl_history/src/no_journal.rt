@@ -63,4 +63,9 @@ impl Journal for NoJournal {
     fn flush(&mut self) -> bool {
         true
     }
+
+    #[tactic(auto, using(crate::proofs::Prefixes::of_itself))]
+    fn store(&mut self) -> bool {
+        true
+    }
 }

@@ -4,10 +4,11 @@ ghost use Rattle.std.specs.Prelude.{◌≡◌, ◌≤◌, ◌<◌, ◌+◌, ◌-
 ghost use Rattle.std.specs.VecDeque.{deque_capacity, deque_len};
 ghost use Rattle.fl_history.specs.Inside.Entries.{asks_of, entry_of, recalled_by};
 ghost use Rattle.fl_history.specs.Recent.{recalled, recent};
+ghost use Rattle.fl_history.specs.declared.history.Line.TheVariants as line;
 
 use crate::history::Line;
 use crate::past::Past;
-use fl_order::{NoMemory, Told};
+use fl_order::{NoMemory, Order, Told};
 use std::alloc::Global;
 use std::collections::VecDeque;
 use std::marker::Model;
@@ -36,16 +37,6 @@ enum Entry {
 }
 
 impl Entry {
-    // What is kept of a line.
-    fn of(line: &Line) -> Entry
-        ensures { result ≡ entry_of line.now }
-    {
-        match line {
-            Line::Asked { worker: _, order } => Entry::Asked(order.unique),
-            Line::Told(told) => Entry::Told(*told),
-        }
-    }
-
     // What lines say of a unique, with this one behind those before.
     fn recalled(&self, unique: u64, before: Recalled) -> Recalled
         requires { asks_of before < 2 ^ 31 }
@@ -100,8 +91,38 @@ impl Recent {
     pub fn push(&mut self, line: &Line)
         ensures { self.new ≡ self.old ++ line.now ∷ [] }
     {
+        match line {
+            Line::Asked { worker, order } => self.push_asked(*worker, order),
+            Line::Told(told) => self.push_told(told),
+        }
+    }
+
+    /// An order of a worker more. It takes no memory.
+    pub fn push_asked(&mut self, worker: u32, order: &Order)
+        ensures { self.new ≡ self.old ++ line.Asked worker order.now ∷ [] }
+    {
+        let line = Line::Asked {
+            worker,
+            order: *order,
+        };
+        self.keep(Entry::Asked(order.unique), &line);
+    }
+
+    /// A reply more. It takes no memory.
+    pub fn push_told(&mut self, told: &Told)
+        ensures { self.new ≡ self.old ++ line.Told told.now ∷ [] }
+    {
+        self.keep(Entry::Told(*told), &Line::Told(*told));
+    }
+
+    // A line more, of which this is kept. The line is for proofs alone.
+    #[inline(always)]
+    fn keep(&mut self, entry: Entry, line: &Line)
+        requires { entry ≡ entry_of line.now }
+        ensures { self.new ≡ self.old ++ line.now ∷ [] }
+    {
         drop_oldest(&mut self.entries);
-        let Ok(()) = self.entries.push_back(Entry::of(line)) else {
+        let Ok(()) = self.entries.push_back(entry) else {
             unreachable!()
         };
         self.past = self.past.and(line);

@@ -40,31 +40,24 @@ impl<L: BoardName> Model for Update<L> {
 }
 
 impl<L: BoardName> Update<L> {
-    /// An update by this order, which stands behind the asks of `before`. Those of `after` are they and the order. If it
-    /// is known what the order was told alone (`Tolds::own_alone`), a copy tests less.
-    pub fn new(
-        order: Order,
+    // An update by this order, which stands behind the asks of `before`. Those of `after` are they and the order.
+    pub(crate) fn new(
+        order: &Order,
         alone: Option<Option<Result<Answer, Errno>>>,
-        before: Beginning<L, Ask>,
-        after: Beginning<L, Ask>,
+        before: &Beginning<L, Ask>,
+        after: &Beginning<L, Ask>,
     ) -> Update<L>
-        requires next { present_after L.rules after ≡ next (present_after L.rules before) order }
-        requires alone { IfSome alone (λ reply. replies (present_after L.rules before) order ≡ own_replies order reply) }
-        ensures { (result.before ≡ before) × (result.after ≡ after) × (result.order ≡ order) }
+        requires next { present_after L.rules after.now ≡ next (present_after L.rules before.now) order.now }
+        requires alone { IfSome alone (λ reply.
+            replies (present_after L.rules before.now) order.now ≡ own_replies order.now reply) }
+        ensures { (result.before ≡ before.now) × (result.after ≡ after.now) × (result.order ≡ order.now) }
     {
         Update {
-            order,
+            order: *order,
             alone,
-            before,
-            after,
+            before: before.again(),
+            after: after.again(),
         }
-    }
-
-    // The asks with its order.
-    pub(crate) fn after(&self) -> Beginning<L, Ask>
-        ensures { result ≡ self.now.after }
-    {
-        self.after.again()
     }
 }
 

@@ -2,6 +2,9 @@
 
 ghost use Rattle.std.specs.Prelude.{◌≡◌, ◌<◌, ◌^◌, ◌⊎◌, ◌↔◌, [], None, Some, IfOk, IfSome, IsSome, OnOk};
 ghost use Rattle.left_right.specs.Handles.{published, pending};
+ghost use Rattle.fl_core.specs.Replies.{own_replies};
+ghost use Rattle.fl_core.specs.Step.{next, replies};
+ghost use Rattle.fl_replica.specs.Asks.{present_after};
 ghost use Rattle.fl_replica.specs.Inside.Updates.{in_the_end};
 
 use crate::ask::Ask;
@@ -9,7 +12,7 @@ use crate::name::BoardName;
 use crate::replica::{Replica, Update};
 use fl_core::Rules;
 use fl_log::Beginning;
-use fl_order::{NoMemory, Op, Order};
+use fl_order::{Answer, Errno, NoMemory, Op, Order};
 use left_right::{Absorb, ReadHandle, WriteHandle};
 use std::alloc::{AllocError, Global};
 use std::marker::Model;
@@ -86,15 +89,29 @@ impl<L: BoardName, R: Wait + Drop> ReplicaWriter<L, R> {
         }
     }
 
-    /// Keeps an update to be published. If memory runs out, nothing is published any more.
-    pub fn add(&mut self, update: Update<L>)
-        requires { update.before ≡ self.old.asks }
-        ensures asks { self.new.asks ≡ update.after }
+    /// Keeps an order to be published, which stands behind the asks of `before`. Those of `after` are they and the
+    /// order. If it is known what the order was told alone (`Tolds::own_alone`), a copy tests less. If memory runs out,
+    /// nothing is published any more.
+    pub fn add(
+        &mut self,
+        order: &Order,
+        alone: Option<Option<Result<Answer, Errno>>>,
+        before: &Beginning<L, Ask>,
+        after: &Beginning<L, Ask>,
+    )
+        requires before { before.now ≡ self.old.asks }
+        requires next { present_after L.rules after.now ≡ next (present_after L.rules before.now) order.now }
+        requires alone { IfSome alone (λ reply.
+            replies (present_after L.rules before.now) order.now ≡ own_replies order.now reply) }
+        ensures asks { self.new.asks ≡ after.now }
         ensures shown { (self.new.shown ≡ None) ⊎ (self.new.shown ≡ self.old.shown) }
     {
-        self.asks = update.after();
+        self.asks = after.again();
         let kept = match &mut self.writer {
-            Some(writer) => writer.append(update).is_ok(),
+            Some(writer) => {
+                let update = Update::new(order, alone, before, after);
+                writer.append(update).is_ok()
+            }
             None => true,
         };
         if !kept {
@@ -161,5 +178,5 @@ fn nothing<L: BoardName>(none: &Beginning<L, Ask>) -> Update<L>
         pid: 0,
         op: Op::Getattr,
     };
-    Update::new(order, None, none.again(), none.again())
+    Update::new(&order, None, none, none)
 }

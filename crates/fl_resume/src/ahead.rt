@@ -81,4 +81,8 @@ impl<T: Write> Journal for AheadLines<T> {
     fn flush(&mut self) -> bool {
         self.stream.flush()
     }
+
+    fn store(&mut self) -> bool {
+        self.stream.store()
+    }
 }

@@ -113,7 +113,7 @@ fn recent_behind(recent: Recent, missing: &[Told]) -> Recent
 {
     let mut recent = recent;
     for told in missing {
-        recent.push(&Line::Told(*told));
+        recent.push_told(told);
     }
     recent
 }

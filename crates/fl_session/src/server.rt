@@ -13,7 +13,7 @@ use crate::again::{order_under, response_under, unmarked};
 use crate::replying::Replying;
 use fl_core::{Rules, Tolds};
 use fl_desk::Desk;
-use fl_history::{Journal, Line, Recalled, Recent};
+use fl_history::{Journal, Recalled, Recent};
 use fl_order::{NoMemory, Order, Told};
 use fl_transport::{Handshake, Incoming, Response};
 use fl_wire::{Batch, Frame};
@@ -254,11 +254,8 @@ fn recall(recent: &mut Option<Recent>, order: &Order, tolds: &[Told])
 fn push_lines(recent: &mut Recent, order: &Order, tolds: &[Told])
     ensures { recent.new ≡ recent.old ++ step_lines 0 order.now tolds.now }
 {
-    recent.push(&Line::Asked {
-        worker: 0,
-        order: *order,
-    });
+    recent.push_asked(0, order);
     for told in tolds {
-        recent.push(&Line::Told(*told));
+        recent.push_told(told);
     }
 }

@@ -21,7 +21,7 @@ module _ {X : Type 0} where
 more_stored : (manner : WhenWriterFails) (lines lines_now noted noted_now : List Line) → IsPrefix lines lines_now
     → IsPrefix noted noted_now → IsPrefix (stored_by manner lines noted) (stored_by manner lines_now noted_now)
 more_stored GoOn lines lines_now noted noted_now all some = all
-more_stored Refuse lines lines_now noted noted_now all some = all
+more_stored Refuse lines lines_now noted noted_now all some = some
 more_stored End lines lines_now noted noted_now all some = some
 
 -- a line came, and no more were noted

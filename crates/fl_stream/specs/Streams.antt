@@ -4,7 +4,7 @@ use Rattle.std.specs.Io.KnownBytes.{Appends}
 use mathlib.Core.List.{IsPrefix}
 use Rattle.fl_history.specs.declared.history.Line.{Line}
 use Rattle.fl_stream.specs.declared.manner.WhenWriterFails.{WhenWriterFails}
-use Rattle.fl_stream.specs.declared.manner.WhenWriterFails.TheVariants.{GoOn, End}
+use Rattle.fl_stream.specs.declared.manner.WhenWriterFails.TheVariants.{GoOn}
 use Rattle.fl_trace.specs.Text.{text_of}
 
 -- a writer that says what it holds has these bytes and no others
@@ -51,11 +51,11 @@ pub record Stream : Type 0 where
   pub broken : Bool
   pub manner : WhenWriterFails
 
--- The lines that are stored, by the manner, of all lines and of those that were noted as written. Only a stream whose
--- session ends when a write fails stores them for somebody.
+-- The lines that are stored, by the manner, of all lines and of those that were noted as written. A stream that goes on
+-- without its writer stores them for nobody.
 abbrev pub stored_by : WhenWriterFails → List Line → List Line → List Line
-stored_by End lines noted = noted
-stored_by manner lines noted = lines
+stored_by GoOn lines noted = lines
+stored_by manner lines noted = noted
 
 -- The writer has the text of a beginning of the lines, which may end within a line. `HoldsText` says which lines it has
 -- at least, as those that it had at first.

@@ -5,7 +5,8 @@
 pub enum WhenWriterFails {
     /// Orders go on, and the rest of the trace is lost: nothing more is written.
     GoOn,
-    /// No order is taken while there is no room for its lines. What isn't written is kept, and tried again.
+    /// No order is taken from then on until a write succeeds, and no reply leaves before the lines of its order are
+    /// stored. What isn't written is kept, and tried again.
     Refuse,
     /// The session ends: no reply leaves before the lines of its order are stored. What isn't written is kept, and
     /// tried again.

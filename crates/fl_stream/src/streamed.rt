@@ -20,13 +20,14 @@ use std::marker::Model;
 /// So many lines at the most find room one after another before their text is written.
 const MOST_LINES: usize = 2048;
 
-/// Before an order is taken while so many bytes wait, they are written. So at most some 64 KB wait, and the lines of one
-/// order.
+/// Before an order is taken while so many bytes wait, they are written, but not at `Refuse`. So at most some 64 KB wait,
+/// and the lines of one order.
 const MOST_WAITING: usize = 60 * 1024;
 
 /// Lines that go to a writer as their text, as `print_trace` spells it. The text waits in a room of some 1.4 megabytes,
-/// made once. It is written before an order if some 64 KB wait, and when the stream is told to flush or to finish. What was written is
-/// noted when all is, and the writer could hand it on.
+/// made once. It is written before an order if some 64 KB wait, and when the stream is told to flush, to store or to
+/// finish. At `Refuse` it is written before an order only if there is no room for its lines, and there is none once a
+/// write failed, until one succeeds. What was written is noted when all is, and the writer could hand it on.
 ///
 /// Contracts see all lines so far, those that were noted, what the writer holds, the text that waits, the room for more
 /// lines, what it does when a write fails, and whether it is broken: then it goes on without its writer, and writes
@@ -38,7 +39,7 @@ pub struct Streamed<W: Write> {
     noted: Past<Line>,
     // The text of lines, as far as it isn't written.
     unsent: Vec<u8>,
-    // For how many more lines there is room behind it.
+    // For how many more lines there is room behind it: at `Refuse` none once a write failed, until one succeeds.
     room: usize,
     writer: W,
     broken: bool,
@@ -131,6 +132,7 @@ impl<W: Write> Streamed<W> {
         ensures begun { IsBegun W.contents self.new.held self.new.lines }
         ensures stays { IsTrue self.old.broken → IsTrue self.new.broken }
         ensures silent { IsTrue self.old.broken → Keeps self.old.held self.new.held }
+        ensures refuses { self.new.manner ≡ manner.Refuse → self.new.unsent ≢ [] → self.new.room ≡ 0 }
     {
         self.write_waiting();
         let flushed = self.flush_writer();
@@ -203,11 +205,17 @@ impl<W: Write> Streamed<W> {
         ensures noted { self.new.noted ≡ self.old.noted }
         ensures manner { self.new.manner ≡ self.old.manner }
         ensures goes_on { self.new.manner ≡ manner.GoOn → 2048 ≤ self.new.room }
-        ensures room { self.old.room ≤ self.new.room }
+        ensures room { self.old.manner ≢ manner.Refuse → self.old.room ≤ self.new.room }
+        ensures refuses { self.new.manner ≡ manner.Refuse → self.new.unsent ≢ [] → self.new.room ≡ 0 }
         ensures stays { IsTrue self.old.broken → IsTrue self.new.broken }
         ensures silent { IsTrue self.old.broken → Keeps self.old.held self.new.held }
     {
-        if !self.send() && self.manner == WhenWriterFails::GoOn {
+        let sent = self.send();
+        if !sent && self.manner == WhenWriterFails::Refuse {
+            self.room = 0;
+            return;
+        }
+        if !sent && self.manner == WhenWriterFails::GoOn {
             self.give_up();
         }
         self.count_room();
@@ -232,6 +240,8 @@ impl<W: Write> Streamed<W> {
         ensures noted { self.new.noted ≡ self.old.noted }
         ensures manner { self.new.manner ≡ self.old.manner }
         ensures broken { self.new.broken ≡ self.old.broken }
+        ensures unsent { self.new.unsent ≡ self.old.unsent }
+        ensures room { self.new.room ≡ self.old.room }
         ensures held { Keeps self.old.held self.new.held }
     {
         self.writer.flush().is_ok()
@@ -246,6 +256,7 @@ impl<W: Write> Streamed<W> {
         ensures noted { self.new.noted ≡ self.new.lines }
         ensures manner { self.new.manner ≡ self.old.manner }
         ensures broken { self.new.broken ≡ self.old.broken }
+        ensures unsent { self.new.unsent ≡ self.old.unsent }
         ensures held { self.new.held ≡ self.old.held }
     {
         self.noted = self.past.same();
@@ -273,6 +284,7 @@ impl<W: Write> Streamed<W> {
         ensures noted { self.new.noted ≡ self.old.noted }
         ensures manner { self.new.manner ≡ self.old.manner }
         ensures broken { self.new.broken ≡ self.old.broken }
+        ensures unsent { self.new.unsent ≡ self.old.unsent }
         ensures held { self.new.held ≡ self.old.held }
         ensures all { self.old.unsent ≡ [] → 2048 ≤ self.new.room }
         ensures room { self.old.room ≤ self.new.room }
@@ -288,7 +300,8 @@ impl<W: Write> Journal for Streamed<W> {
 
     ghost room = { λ s. s.room };
 
-    // If it goes on without its writer, no order is refused.
+    // If it goes on without its writer, no order is refused. At `Refuse` each row of orders is stored before its replies
+    // leave, so nothing waits unless a write failed.
     fn reserve(&mut self, count: usize) -> Result<(), NoMemory>
         requires few { count ≤ 2048 }
         ensures lines { self.new.lines ≡ self.old.lines }
@@ -297,12 +310,12 @@ impl<W: Write> Journal for Streamed<W> {
         ensures room { OnOk result (count ≤ self.new.room) }
         ensures succeeds { count ≤ self.old.room → IsOk result }
         ensures goes_on { self.old.manner ≡ manner.GoOn → IsOk result }
+        ensures refuses { self.old.manner ≡ manner.Refuse → self.old.room < count
+            → OnOk result (self.new.unsent ≡ []) }
         ensures silent { IsTrue self.old.broken → Keeps self.old.held self.new.held }
     {
-        if self.room < count {
-            self.count_room();
-        }
-        if self.room < count || self.unsent.len() >= MOST_WAITING {
+        let waits = self.unsent.len() >= MOST_WAITING && self.manner != WhenWriterFails::Refuse;
+        if self.room < count || waits {
             self.write_waiting();
         }
         if self.room < count {
@@ -342,16 +355,31 @@ impl<W: Write> Journal for Streamed<W> {
         self.push(&Line::Told(*told));
     }
 
-    // At `End` it says whether all is written. With the other manners nobody wants lines stored, and it says true.
+    // It says whether all is written. If it goes on without its writer, nobody wants lines stored, and it says true.
     fn flush(&mut self) -> bool
         ensures lines { self.new.lines ≡ self.old.lines }
         ensures front { IsPrefix self.old.noted self.new.noted }
-        ensures noted { self.new.manner ≡ manner.End → IsTrue result → self.new.noted ≡ self.new.lines }
-        ensures others { self.new.manner ≢ manner.End → IsTrue result }
+        ensures noted { self.new.manner ≢ manner.GoOn → IsTrue result → self.new.noted ≡ self.new.lines }
+        ensures goes_on { self.new.manner ≡ manner.GoOn → IsTrue result }
         ensures manner { self.new.manner ≡ self.old.manner }
         ensures stays { IsTrue self.old.broken → IsTrue self.new.broken }
         ensures silent { IsTrue self.old.broken → Keeps self.old.held self.new.held }
+        ensures refuses { self.new.manner ≡ manner.Refuse → self.new.unsent ≢ [] → self.new.room ≡ 0 }
     {
-        self.finish() || self.manner != WhenWriterFails::End
+        self.finish() || self.manner == WhenWriterFails::GoOn
+    }
+
+    // The same, but if it goes on without its writer, nothing is written.
+    fn store(&mut self) -> bool
+        ensures lines { self.new.lines ≡ self.old.lines }
+        ensures front { IsPrefix self.old.noted self.new.noted }
+        ensures noted { self.new.manner ≢ manner.GoOn → IsTrue result → self.new.noted ≡ self.new.lines }
+        ensures goes_on { self.new.manner ≡ manner.GoOn → IsTrue result × (self.new ≡ self.old) }
+        ensures manner { self.new.manner ≡ self.old.manner }
+        ensures stays { IsTrue self.old.broken → IsTrue self.new.broken }
+        ensures silent { IsTrue self.old.broken → Keeps self.old.held self.new.held }
+        ensures refuses { self.new.manner ≡ manner.Refuse → self.new.unsent ≢ [] → self.new.room ≡ 0 }
+    {
+        self.manner == WhenWriterFails::GoOn || self.finish()
     }
 }

@@ -8,6 +8,7 @@ mod failing;
 mod printing;
 mod recent;
 mod refused;
+mod refusing;
 mod whole;
 
 use fl_history::{History, Journal, Line};

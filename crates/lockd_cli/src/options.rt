@@ -258,6 +258,9 @@ fn begin_of(alloc: Global, options: &ArgMatches<'_>) -> Result<Asked, UsageError
     let workers = workers_of(number_of(options, "workers"));
     let socket = socket_of(alloc, options)?;
     let trace = trace_of(alloc, options)?;
+    if workers == 1 && matches!(trace, Trace::File(_, WhenFull::Refuse)) {
+        return Err(UsageError::OneWorker);
+    }
     Ok(Asked::Serve {
         socket,
         workers,

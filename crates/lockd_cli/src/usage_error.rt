@@ -16,6 +16,8 @@ pub enum UsageError {
     Words(io::Error),
     #[error("error: '--trace-full' takes go-on or refuse with '--trace FILE', and wait or end with '--resume FILE'\n\nFor more information, try '--help'.\n")]
     TraceFull,
+    #[error("error: '--trace-full refuse' takes two workers or more: while one waits to write, another refuses orders\n\nFor more information, try '--help'.\n")]
+    OneWorker,
     #[error("{0}")]
     CommandLine(clap::Error),
 }

@@ -23,6 +23,7 @@ pub struct ServeOptions<T> {
     pub rules: Rules,
     /// Where the trace goes.
     pub trace: TraceTo<T>,
-    /// What happens to orders when the trace's writer can't be written.
+    /// What happens to orders when the trace's writer can't be written. `Refuse` wants two workers or more: while one
+    /// waits for its lines to be written, another refuses orders. The session of one alone would end.
     pub when_full: WhenWriterFails,
 }

@@ -5,6 +5,7 @@ ghost use Rattle.fl_core.specs.Tolds.{HasRoom};
 
 mod pool;
 mod rounds;
+mod stored;
 mod threads;
 mod watched;
 

@@ -73,6 +73,10 @@ impl Journal for Refusing {
     fn flush(&mut self) -> bool {
         self.lines.flush()
     }
+
+    fn store(&mut self) -> bool {
+        self.lines.store()
+    }
 }
 
 impl Refusing {

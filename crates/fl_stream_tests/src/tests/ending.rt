@@ -1,4 +1,4 @@
-//! Streams whose session ends when a write fails: their lines have to be stored.
+//! Streams whose lines have to be stored.
 
 ghost use Rattle.std.specs.Prelude.{◌≡◌, [], Some};
 ghost use Rattle.fl_stream.specs.Streams.{IsBlank};
@@ -54,10 +54,16 @@ fn stored<W: Write + Drop>(
 }
 
 // One flush says no over this writer, and all is written at the end.
-fn is_caught_up(rt: &impl Abort, alloc: Global, history: &History, sink: Sink)
+fn is_caught_up(
+    rt: &impl Abort,
+    alloc: Global,
+    history: &History,
+    manner: WhenWriterFails,
+    sink: Sink,
+)
     requires { sink.held.items ≡ [] }
 {
-    let (course, sink) = stored(rt, sink, WhenWriterFails::End, history, alloc, 1);
+    let (course, sink) = stored(rt, sink, manner, history, alloc, 1);
     is_written(rt, &course);
     holds(rt, &sink.held, TRACE.as_bytes());
 }
@@ -66,8 +72,10 @@ fn is_caught_up(rt: &impl Abort, alloc: Global, history: &History, sink: Sink)
 fn what_a_flush_left_is_stored_by_the_next(rt: HostRuntime) {
     let history = history_of(&rt, rt.alloc(), TRACE);
     for fails_at in 0..LINES {
-        let sink = Sink::failing_once(rt.alloc(), fails_at, ErrorKind::Other);
-        is_caught_up(&rt, rt.alloc(), &history, sink);
+        for manner in [WhenWriterFails::Refuse, WhenWriterFails::End] {
+            let sink = Sink::failing_once(rt.alloc(), fails_at, ErrorKind::Other);
+            is_caught_up(&rt, rt.alloc(), &history, manner, sink);
+        }
     }
 }
 
@@ -76,7 +84,7 @@ fn each_write_of_seven_bytes_fails_once(rt: HostRuntime) {
     let history = history_of(&rt, rt.alloc(), TRACE);
     for fails_at in 0..100 {
         let sink = Sink::new(rt.alloc(), 7, Trouble::once(fails_at, None));
-        is_caught_up(&rt, rt.alloc(), &history, sink);
+        is_caught_up(&rt, rt.alloc(), &history, WhenWriterFails::End, sink);
     }
 }
 
@@ -115,8 +123,7 @@ fn lines_wait_for_a_writer_that_always_fails(rt: HostRuntime) {
 }
 
 #[test]
-fn other_streams_store_their_lines_for_nobody(rt: HostRuntime) {
-    is_never_written(&rt, rt.alloc(), WhenWriterFails::Refuse, 0, false);
+fn a_stream_that_goes_on_stores_its_lines_for_nobody(rt: HostRuntime) {
     is_never_written(&rt, rt.alloc(), WhenWriterFails::GoOn, 0, true);
 }
 

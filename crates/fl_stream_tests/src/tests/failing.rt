@@ -65,27 +65,27 @@ fn what_a_write_left_is_written_by_the_next(rt: HostRuntime) {
     }
 }
 
-// The first write fails, and the next ones don't: there is room until then, so each line is taken.
-fn catches_up_often(rt: &impl Abort, alloc: Global, manner: WhenWriterFails) {
+// The first write fails, and the next ones don't. So many of 40,000 lines are taken.
+fn catches_up_often(rt: &impl Abort, alloc: Global, manner: WhenWriterFails, taken: usize) {
     let sink = Sink::failing_once(alloc, 0, ErrorKind::Other);
     let (course, sink) = streamed_often(rt, sink, manner, 40_000, alloc);
     let wanted = Course {
-        taken: 40_000,
+        taken,
         flushed: true,
         broken: false,
     };
     course_is(rt, &course, &wanted);
-    count_is(rt, sink.held.len(), 40_000 * 43);
+    count_is(rt, sink.held.len(), taken.saturating_mul(43));
 }
 
 #[test]
-fn a_write_that_fails_once_refuses_no_line(rt: HostRuntime) {
-    catches_up_often(&rt, rt.alloc(), WhenWriterFails::Refuse);
-    catches_up_often(&rt, rt.alloc(), WhenWriterFails::End);
+fn a_write_that_fails_once_refuses_a_line_only_at_refuse(rt: HostRuntime) {
+    catches_up_often(&rt, rt.alloc(), WhenWriterFails::Refuse, 39_999);
+    catches_up_often(&rt, rt.alloc(), WhenWriterFails::End, 40_000);
 }
 
-// No write succeeds. Lines of 43 bytes are taken while 700 more have room behind them, in 2,048 times 700 bytes.
-fn refuses(rt: &impl Abort, alloc: Global, manner: WhenWriterFails) {
+// No write succeeds. So many of 40,000 lines are taken.
+fn refuses(rt: &impl Abort, alloc: Global, manner: WhenWriterFails, taken: usize) {
     let sink = Sink::new(
         alloc,
         usize::MAX,
@@ -93,7 +93,7 @@ fn refuses(rt: &impl Abort, alloc: Global, manner: WhenWriterFails) {
     );
     let (course, sink) = streamed_often(rt, sink, manner, 40_000, alloc);
     let wanted = Course {
-        taken: 33_324,
+        taken,
         flushed: false,
         broken: false,
     };
@@ -101,10 +101,12 @@ fn refuses(rt: &impl Abort, alloc: Global, manner: WhenWriterFails) {
     count_is(rt, sink.held.len(), 0);
 }
 
+// Lines are taken before the first write, which is needed behind 2,048 of them. At `End` lines of 43 bytes are taken
+// while 700 more have room behind them, in 2,048 times 700 bytes.
 #[test]
 fn a_full_room_refuses(rt: HostRuntime) {
-    refuses(&rt, rt.alloc(), WhenWriterFails::Refuse);
-    refuses(&rt, rt.alloc(), WhenWriterFails::End);
+    refuses(&rt, rt.alloc(), WhenWriterFails::Refuse, 2_048);
+    refuses(&rt, rt.alloc(), WhenWriterFails::End, 33_324);
 }
 
 #[test]

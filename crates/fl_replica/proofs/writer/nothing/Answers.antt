@@ -16,5 +16,5 @@ nothing_changes rules = refl
 
 pub new-requires-clause-next : goal.new-requires-clause-next
 new-requires-clause-next g c =
-    ap (present_after g.L.BoardName.rules) (c.again-2.ensures ∙ c.requires) ∙ nothing_changes g.L.BoardName.rules
-    ∙ ap (λ asks. next (present_after g.L.BoardName.rules asks) getattr) (sym (c.again.ensures ∙ c.requires))
+    ap (present_after g.L.BoardName.rules) c.requires ∙ nothing_changes g.L.BoardName.rules
+    ∙ ap (λ asks. next (present_after g.L.BoardName.rules asks) getattr) (sym c.requires)

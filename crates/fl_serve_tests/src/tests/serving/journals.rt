@@ -44,6 +44,10 @@ impl Journal for Noted {
         self.pauses = self.pauses.saturating_add(1);
         self.lines.flush()
     }
+
+    fn store(&mut self) -> bool {
+        self.lines.store()
+    }
 }
 
 impl Noted {

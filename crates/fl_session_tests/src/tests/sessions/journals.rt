@@ -42,6 +42,10 @@ impl Journal for Noted {
         self.flushes = self.flushes.saturating_add(1);
         self.lines.flush()
     }
+
+    fn store(&mut self) -> bool {
+        self.lines.store()
+    }
 }
 
 // The worked session comes in pieces of at most so many bytes, with so many reads. Its lines are with the journal, which

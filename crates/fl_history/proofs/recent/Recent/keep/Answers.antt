@@ -1,6 +1,6 @@
 use Rattle.std.proofs.Common.{rules}
 use Rattle.fl_history.proofs.Recalling.{kept_more}
-use Rattle.fl_history.proofs.recent.Recent.push.Goals as goal
+use Rattle.fl_history.proofs.recent.Recent.keep.Goals as goal
 
 pub invariant_of-self : goal.invariant_of-self
 invariant_of-self c =
