@@ -1,0 +1,39 @@
+-- What lines have of a unique that its client uses for one message.
+use Rattle.std.specs.Prelude.{◌≡◌, ◌≢◌, ℕ, ◌<◌, true, List, ◌∷◌, ◌++◌, length, Some, Ok}
+use Rattle.std.specs.List.{AllByRecursion}
+use Rattle.fl_history.specs.declared.history.Line.{Line}
+use Rattle.fl_history.specs.declared.history.Line.TheVariants as line
+use Rattle.fl_order.specs.declared.order.Order.{Order}
+use Rattle.fl_order.specs.declared.told.Told.{Told}
+use Rattle.fl_session.specs.Again.{unmarked}
+use Rattle.fl_wire.specs.Layout.{unique_of}
+use Rattle.fl_wire.specs.Says.{said}
+
+-- the unique of a line
+abbrev pub unique_in : Line → ℕ
+unique_in (line.Asked worker order) = order.unique
+unique_in (line.Told told) = told.unique
+
+-- no line has this unique
+abbrev pub HaveNothing : ℕ → List Line → Type 0
+HaveNothing unique lines = AllByRecursion (λ (l : Line). unique_in l ≢ unique) lines
+
+-- Of its unique, lines have one order and behind it this reply. Fewer than 65,536 lines are behind the reply.
+pub record HaveReply (lines : List Line) (told : Told) : Type 0 where
+  pub worker : ℕ
+  pub order : Order
+  pub before : List Line
+  pub between : List Line
+  pub after : List Line
+  pub named : order.unique ≡ told.unique
+  pub stand : lines ≡ (before ++ line.Asked worker order ∷ between) ++ line.Told told ∷ after
+  pub none_before : HaveNothing told.unique before
+  pub none_between : HaveNothing told.unique between
+  pub none_after : HaveNothing told.unique after
+  pub near : length after < 65536
+
+-- a message is an order that is sent again, marked, and has this unique without its mark
+pub record IsOrderAgain (unique : ℕ) (message : List ℕ) : Type 0 where
+  pub order : Order
+  pub marked : unmarked true (unique_of message) ≡ Some unique
+  pub says : said message ≡ Ok order
