@@ -1,6 +1,6 @@
 -- A session that was cut off inside a batch.
 use Rattle.std.proofs.Common.{◌≡◌, ℕ, zero, suc, ◌≤◌, Bool, true, false, List, [], ◌∷◌, ◌++◌, length, drop, take, map, replicate, Option, None, Some}
-use Rattle.std.proofs.Common.{refl, sym, ap, subst, ◌∙◌, append_assoc, append-nil, arith}
+use Rattle.std.proofs.Common.{refl, sym, ap, ◌∙◌, append_assoc, append-nil, arith}
 use Rattle.std.specs.Prelude.{if◌then◌else◌}
 use Rattle.std.specs.List.{AllByRecursion}
 use Rattle.std.proofs.lemmas.Grind.{fold-append}
@@ -20,14 +20,14 @@ use Rattle.fl_history.specs.declared.recent.Recalled.TheVariants as recall
 use Rattle.fl_order.specs.declared.order.Op.TheVariants.{Forget}
 use Rattle.fl_order.specs.declared.order.Order.{Order}
 use Rattle.fl_order.specs.declared.told.Told.{Told}
-use Rattle.fl_session.proofs.OnceLemmas.{AreAlike, GoAlike, again_alike, agrees_on, all_new, as_one, goes_by, marked_met, moved, moved_alike, orders_go, plain_met, resends_from}
+use Rattle.fl_session.proofs.OnceLemmas.{GoAlike, again_alike, agrees_on, all_new, as_one, goes_by, marked_met, moved, moved_alike, orders_go, plain_met, resends_from}
 use Rattle.fl_session.proofs.RecallLemmas.{asks, asks_recalled}
 use Rattle.fl_session.proofs.RulesLemmas.{by_message}
 use Rattle.fl_session.specs.Again.{incoming_under, unmarked}
 use Rattle.fl_session.specs.AsOne.{AreAsOne, IsCutInside, part_of, replies_again}
 use Rattle.fl_session.specs.Once.{AllComeAgain, AreNew, resumed, under_way}
 use Rattle.fl_session.specs.Session.{Came, Session, opening_session, session_from, session_of, with_again, with_either, with_incoming}
-use Rattle.fl_session.specs.Session.{with_message, with_order, with_orders, with_orders_again, with_recalled}
+use Rattle.fl_session.specs.Session.{with_message, with_order, with_orders, with_recalled}
 use Rattle.fl_transport.specs.Handshake.{advanced, incoming_by, incoming_of}
 use Rattle.fl_transport.specs.declared.handshake.Handshake.{Handshake}
 use Rattle.fl_transport.specs.declared.handshake.Incoming.{Incoming}

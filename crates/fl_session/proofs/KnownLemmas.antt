@@ -1,8 +1,7 @@
 -- What a client gets that uses each unique for one message.
-use Rattle.std.proofs.Common.{◌≡◌, ℕ, zero, suc, ◌+◌, ◌-◌, ◌≤◌, ◌<◌, Bool, true, false, List, [], ◌∷◌, ◌++◌, length, drop, Option, None, Some}
+use Rattle.std.proofs.Common.{◌≡◌, ℕ, zero, suc, ◌-◌, ◌≤◌, Bool, true, false, List, [], ◌∷◌, ◌++◌, length, drop, Some}
 use Rattle.std.proofs.Common.{refl, sym, ap, subst, ◌∙◌, arith, length-append, ⊎_elim}
-use Rattle.std.specs.Prelude.{◌⊎◌, All, Contains, Ok, flat_map, fold, if◌then◌else◌, ◌==◌, ◌≢◌, slice_index_or}
-use Rattle.std.specs.List.{AllByRecursion}
+use Rattle.std.specs.Prelude.{All, Contains, flat_map, fold, if◌then◌else◌, ◌≢◌, slice_index_or}
 use Rattle.std.proofs.lemmas.Bool.{eq-eqb, ne_eqb}
 use Rattle.std.proofs.lemmas.Grind.{fold-append}
 use Rattle.std.proofs.lemmas.List.{drop-append-le}
@@ -13,12 +12,11 @@ use Rattle.fl_history.specs.declared.history.Line.{Line}
 use Rattle.fl_history.specs.declared.history.Line.TheVariants as line
 use Rattle.fl_history.specs.declared.recent.Recalled.{Recalled}
 use Rattle.fl_history.specs.declared.recent.Recalled.TheVariants as recall
-use Rattle.fl_order.specs.declared.order.Order.{Order}
 use Rattle.fl_order.specs.declared.told.Told.{Told}
 use Rattle.fl_session.proofs.ParkedLemmas.{counted_free, others_counted, replied_free}
 use Rattle.fl_session.proofs.RecallLemmas.{behind_unsaid}
 use Rattle.fl_session.specs.Again.{unmarked}
-use Rattle.fl_session.specs.AsOne.{AreAsOne, replies_again, reply_had, reply_in, reply_unmarked}
+use Rattle.fl_session.specs.AsOne.{AreAsOne, replies_again, reply_in, reply_unmarked}
 use Rattle.fl_session.specs.Known.{HaveNothing, HaveReply, IsOrderAgain, unique_in}
 use Rattle.fl_session.specs.Once.{IsUnknown}
 use Rattle.fl_session.specs.Session.{Came, Session}

@@ -1,7 +1,7 @@
 -- A session that was cut off and goes on, beside one that wasn't.
 use Rattle.std.proofs.Common.{◌≡◌, ℕ, Bool, true, false, ◌||◌, List, [], ◌∷◌, ◌++◌, length, drop, map, Option, None, Some}
 use Rattle.std.proofs.Common.{refl, sym, ap, subst, ◌∙◌, append_assoc, append-nil}
-use Rattle.std.specs.Prelude.{if◌then◌else◌, flat_map}
+use Rattle.std.specs.Prelude.{if◌then◌else◌}
 use Rattle.std.proofs.Math.ListN.{drop_of_length-le}
 use Rattle.std.proofs.lemmas.Grind.{fold-append}
 use Rattle.std.proofs.lemmas.List.{length-map}
@@ -15,7 +15,7 @@ use Rattle.fl_order.specs.Order.{kind_of}
 use Rattle.fl_order.specs.declared.order.Order.{Order}
 use Rattle.fl_session.proofs.RulesLemmas.{by_message}
 use Rattle.fl_session.specs.Again.{incoming_under, order_under, unmarked}
-use Rattle.fl_session.specs.AsOne.{AreAsOne, IsSentAgain, replies_again, reply_again, reply_had, reply_in, reply_unmarked}
+use Rattle.fl_session.specs.AsOne.{AreAsOne, IsSentAgain, replies_again, reply_again, reply_in, reply_unmarked}
 use Rattle.fl_session.specs.Once.{AllComeAgain, AreNew, ComesAgain, IsUnknown, SaysTheSame, has_all, is_had, orders_in, resumed, under_way}
 use Rattle.fl_session.specs.Session.{Came, Session, opening_session, session_from, session_of, with_again, with_either, with_incoming}
 use Rattle.fl_session.specs.Session.{with_message, with_order, with_orders, with_orders_again, with_recalled, with_response}

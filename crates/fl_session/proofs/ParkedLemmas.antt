@@ -1,11 +1,10 @@
 -- How many requests of a unique lines can have parked.
-use Rattle.std.proofs.Common.{◌≡◌, ℕ, zero, suc, ◌+◌, ◌-◌, ◌≤◌, Bool, true, false, ◌||◌, List, [], ◌∷◌, ◌++◌, Option, None, Some}
+use Rattle.std.proofs.Common.{◌≡◌, ℕ, ◌+◌, ◌-◌, ◌≤◌, Bool, true, false, ◌||◌, List, [], ◌∷◌, ◌++◌, Option, None, Some}
 use Rattle.std.proofs.Common.{refl, sym, ap, subst, ◌∙◌, arith}
 use Rattle.std.specs.Prelude.{fold, if◌then◌else◌, option_map, ◌==◌, ◌≢◌, Result}
-use Rattle.std.specs.List.{AllByRecursion}
 use Rattle.std.proofs.lemmas.Bool.{eq-eqb, eqb-true, ne_eqb}
 use Rattle.std.proofs.lemmas.Grind.{fold-append}
-use Rattle.fl_core.specs.Effects.{at_once, by_reply, later, later_to, recorded, request_of, told_first, waited_for, with_waiter}
+use Rattle.fl_core.specs.Effects.{at_once, by_reply, later, later_to, request_of, waited_for, with_waiter}
 use Rattle.fl_core.specs.State.{State, View}
 use Rattle.fl_desk.specs.Replay.{Reading, committed, read_line, read_reply, state_after, unread}
 use Rattle.fl_history.specs.declared.history.Line.{Line}

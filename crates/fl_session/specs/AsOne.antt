@@ -1,5 +1,5 @@
 -- What is sent by a session that goes on behind the lines of one that was cut off, and the batch in which a cut can be.
-use Rattle.std.specs.Prelude.{◌≡◌, ℕ, ◌≤◌, Bool, true, false, List, [], ◌∷◌, ◌++◌, take, replicate, flat_map, if◌then◌else◌, Option, None, Some, Err}
+use Rattle.std.specs.Prelude.{◌≡◌, ℕ, ◌≤◌, true, false, List, [], ◌∷◌, ◌++◌, take, replicate, flat_map, if◌then◌else◌, Option, None, Some, Err}
 use Rattle.fl_desk.specs.Replay.{state_after}
 use Rattle.fl_history.specs.Recent.{recalled, recent}
 use Rattle.fl_history.specs.declared.recent.Recalled.{Recalled}
@@ -7,7 +7,7 @@ use Rattle.fl_history.specs.declared.recent.Recalled.TheVariants as recall
 use Rattle.fl_order.specs.declared.refusal.Refusal.TheVariants.{Batch}
 use Rattle.fl_session.specs.Again.{response_under, unmarked}
 use Rattle.fl_session.specs.Once.{AllComeAgain, AreNew, IsUnknown, SaysTheSame, resumed, under_way}
-use Rattle.fl_session.specs.Session.{Came, Session, with_message, with_orders}
+use Rattle.fl_session.specs.Session.{Came, Session, with_orders}
 use Rattle.fl_transport.specs.Handshake.{incoming_by}
 use Rattle.fl_transport.specs.Response.{bytes_of}
 use Rattle.fl_transport.specs.declared.handshake.Incoming.{Incoming}
