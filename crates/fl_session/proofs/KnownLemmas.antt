@@ -1,5 +1,5 @@
 -- What a client gets that uses each unique for one message.
-use Rattle.std.proofs.Common.{◌≡◌, ℕ, zero, suc, ◌-◌, ◌≤◌, Bool, true, false, List, [], ◌∷◌, ◌++◌, length, drop, Some}
+use Rattle.std.proofs.Common.{◌≡◌, ℕ, zero, suc, ◌-◌, ◌≤◌, Bool, true, false, ◌||◌, ◌+◌, List, [], ◌∷◌, ◌++◌, length, drop, Some}
 use Rattle.std.proofs.Common.{refl, sym, ap, subst, ◌∙◌, arith, length-append, ⊎_elim}
 use Rattle.std.specs.Prelude.{All, Contains, flat_map, fold, if◌then◌else◌, ◌≢◌, slice_index_or}
 use Rattle.std.proofs.lemmas.Bool.{eq-eqb, ne_eqb}
@@ -12,15 +12,20 @@ use Rattle.fl_history.specs.declared.history.Line.{Line}
 use Rattle.fl_history.specs.declared.history.Line.TheVariants as line
 use Rattle.fl_history.specs.declared.recent.Recalled.{Recalled}
 use Rattle.fl_history.specs.declared.recent.Recalled.TheVariants as recall
+use Rattle.fl_order.specs.declared.order.Order.{Order}
 use Rattle.fl_order.specs.declared.told.Told.{Told}
 use Rattle.fl_session.proofs.ParkedLemmas.{counted_free, others_counted, replied_free}
 use Rattle.fl_session.proofs.RecallLemmas.{behind_unsaid}
-use Rattle.fl_session.specs.Again.{unmarked}
-use Rattle.fl_session.specs.AsOne.{AreAsOne, replies_again, reply_in, reply_unmarked}
-use Rattle.fl_session.specs.Known.{HaveNothing, HaveReply, IsOrderAgain, unique_in}
-use Rattle.fl_session.specs.Once.{IsUnknown}
+use Rattle.fl_session.specs.Again.{incoming_under, response_under, unmarked}
+use Rattle.fl_session.specs.AsOne.{AreAsOne, replies_again, reply_again, reply_in, reply_unmarked}
+use Rattle.fl_session.specs.Known.{HaveNothing, HaveOrder, HaveReply, IsOrderAgain, unique_in}
+use Rattle.fl_session.specs.Once.{ComesAgain, IsUnknown, SaysTheSame, has_all, is_had, orders_in}
 use Rattle.fl_session.specs.Session.{Came, Session}
-use Rattle.fl_transport.specs.Handshake.{incoming_by}
+use Rattle.fl_transport.specs.Handshake.{incoming_by, says_destroy}
+use Rattle.fl_transport.specs.Response.{bytes_of}
+use Rattle.fl_transport.specs.declared.handshake.Incoming.{Incoming}
+use Rattle.fl_transport.specs.declared.handshake.Incoming.TheVariants as incoming
+use Rattle.fl_transport.specs.declared.response.Response.{Response}
 use Rattle.fl_waiting.specs.Waiting.{is_parked}
 use Rattle.fl_wire.specs.Layout.{unique_of}
 use Rattle.fl_wire.specs.Says.{said}
@@ -89,6 +94,61 @@ reply_recalled lines told h =
     ∙ ap (λ b. fold (with_line u) b h.after) (told_said told (fold (with_line u) (recall.Asked 0) (drop n front)))
     ∙ others_said u (recall.Told told) h.after h.none_after
 
+asked_said : (unique worker : ℕ) (order : Order) → order.unique ≡ unique
+    → with_line unique (recall.Asked 0) (line.Asked worker order) ≡ recall.Asked 1
+asked_said unique worker order named =
+    ap (λ is. if is then recall.Asked (0 + 1) else recall.Asked 0) (eq-eqb order.unique unique named)
+
+order_recalled : (lines : List Line) (unique : ℕ) → HaveOrder lines unique → recalled unique (recent lines) ≡ recall.Asked 1
+order_recalled lines u h =
+    let back : List Line = line.Asked h.worker h.order ∷ h.after in
+    let n : ℕ = length (h.before ++ back) - 65536 in
+    let long = length-append h.before back in
+    let near = h.near in
+    let within : n ≤ length h.before = omega (arith, long, near) in
+    ap (λ l. recalled u (recent l)) h.stand
+    ∙ ap (recalled u) (drop-append-le n h.before back within)
+    ∙ fold-append (with_line u) (recall.Asked 0) (drop n h.before) back
+    ∙ ap (λ b. fold (with_line u) b back) (behind_unsaid u n h.before (others_said u (recall.Asked 0) h.before h.none_before))
+    ∙ ap (λ b. fold (with_line u) b h.after) (asked_said u h.worker h.order h.named)
+    ∙ others_said u (recall.Asked 1) h.after h.none_after
+
+-- ---- a message whose order is there comes again
+
+or_true : (a : Bool) → (a || true) ≡ true
+or_true true = refl
+or_true false = refl
+
+comes_by : (s : Session) (unique : ℕ) (message : List ℕ) → IsOrderAgain unique message → is_had s unique 1 ≡ true
+    → ComesAgain s message
+comes_by s unique message order had = record {
+  unique = unique;
+  marked = order.marked;
+  stays = ap says_destroy order.says;
+  had = ap (λ says. is_had s unique (length (orders_in (incoming_by message says)))) order.says ∙ had;
+}
+
+pub replied_comes : (s : Session) (told : Told) (message : List ℕ) → HaveReply s.lines told → IsOrderAgain told.unique message
+    → ComesAgain s message
+replied_comes s told message h order =
+    let waits : Bool = is_parked told.unique (state_after s.rules s.lines).view.parked in
+    comes_by s told.unique message order
+    (ap (λ r. waits || has_all r 1) (reply_recalled s.lines told h) ∙ or_true waits)
+
+pub asked_comes : (s : Session) (unique : ℕ) (message : List ℕ) → HaveOrder s.lines unique → IsOrderAgain unique message
+    → ComesAgain s message
+asked_comes s unique message h order =
+    let waits : Bool = is_parked unique (state_after s.rules s.lines).view.parked in
+    comes_by s unique message order
+    (ap (λ r. waits || has_all r 1) (order_recalled s.lines unique h) ∙ or_true waits)
+
+pub parked_comes : (s : Session) (unique : ℕ) (message : List ℕ)
+    → is_parked unique (state_after s.rules s.lines).view.parked ≡ true → IsOrderAgain unique message → ComesAgain s message
+parked_comes s unique message waits order =
+    comes_by s unique message order (ap (λ b. b || has_all (recalled unique (recent s.lines)) 1) waits)
+
+-- ---- what is sent again
+
 had_reply : (waits : Bool) (found : Recalled) (told : Told) → waits ≡ false → found ≡ recall.Told told
     → (if waits then [] else reply_in found) ≡ spelling_of told ∷ []
 had_reply waits found told free some = rw (free, some) refl
@@ -118,3 +178,20 @@ reply_comes_again s again c told h came order =
     (replied_free s.rules s.lines told h) (reply_recalled s.lines told h) in
     flat_contains f again c (spelling_of told) came
     (subst (λ l. Contains l (spelling_of told)) (sym one) (0, omega arith, refl))
+
+under_own : (s : Session) (unique : ℕ) (it : Incoming) (response : Response)
+    → incoming_under unique it ≡ incoming.Response response → reply_again s unique it ≡ bytes_of response
+under_own s unique (incoming.Order order) response e = absurd (cc e)
+under_own s unique (incoming.Batch orders) response e = absurd (cc e)
+under_own s unique (incoming.Response r) response e =
+    let is : response_under unique r ≡ response = cc e in ap bytes_of is
+
+pub answer_comes_again : (s : Session) (again : List Came) (c m : Came) (response : Response) (reply : List ℕ)
+    → SaysTheSame c.message m.message → incoming_by c.message (said c.message) ≡ incoming.Response response
+    → Contains (bytes_of response) reply → Contains again m → Contains (replies_again s again) reply
+answer_comes_again s again c m response reply same own in_it came =
+    let f = λ (c : Came). reply_unmarked s (unmarked true (unique_of c.message)) (incoming_by c.message (said c.message)) in
+    let one : f m ≡ bytes_of response =
+    ap (λ mark. reply_unmarked s mark (incoming_by m.message (said m.message))) same.mark
+    ∙ under_own s (unique_of c.message) (incoming_by m.message (said m.message)) response (same.says ∙ own) in
+    flat_contains f again m reply came (subst (λ l. Contains l reply) (sym one) in_it)

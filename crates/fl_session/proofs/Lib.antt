@@ -2,6 +2,7 @@ pub mod AgainLemmas
 pub mod BatchLemmas
 pub mod KnownLemmas
 pub mod MeetLemmas
+pub mod NewLemmas
 pub mod OnceLemmas
 pub mod ParkedLemmas
 pub mod Prefixes

@@ -4,7 +4,7 @@ use Rattle.std.proofs.Common.{refl, sym, ap, subst, ◌∙◌, arith}
 use Rattle.std.specs.Prelude.{fold, if◌then◌else◌, option_map, ◌==◌, ◌≢◌, Result}
 use Rattle.std.proofs.lemmas.Bool.{eq-eqb, eqb-true, ne_eqb}
 use Rattle.std.proofs.lemmas.Grind.{fold-append}
-use Rattle.fl_core.specs.Effects.{at_once, by_reply, later, later_to, request_of, waited_for, with_waiter}
+use Rattle.fl_core.specs.Effects.{Effect, at_once, by_reply, followed_by, later, later_to, replied, request_of, told_first, waited_for, with_waiter}
 use Rattle.fl_core.specs.State.{State, View}
 use Rattle.fl_desk.specs.Replay.{Reading, committed, read_line, read_reply, state_after, unread}
 use Rattle.fl_history.specs.declared.history.Line.{Line}
@@ -19,16 +19,16 @@ use Rattle.fl_waiting.specs.Waiting.{is_parked, taken_first, taken_out}
 use Rattle.fl_waiting.specs.declared.parked.Request.{Request}
 use Rattle.fl_waiting.specs.declared.rules.Rules.{Rules}
 
-abbrev bit : Bool → ℕ
+abbrev pub bit : Bool → ℕ
 bit true = 1
 bit false = 0
 
 -- so many requests have this unique
-abbrev many : ℕ → List Request → ℕ
+abbrev pub many : ℕ → List Request → ℕ
 many u [] = 0
 many u (r ∷ parked) = bit (r.unique == u) + many u parked
 
-many_append : (u : ℕ) (xs ys : List Request) → many u (xs ++ ys) ≡ many u xs + many u ys
+pub many_append : (u : ℕ) (xs ys : List Request) → many u (xs ++ ys) ≡ many u xs + many u ys
 many_append u [] ys = omega arith
 many_append u (x ∷ xs) ys = let more = many_append u xs ys in omega (arith, more)
 
@@ -160,23 +160,37 @@ own_less true false u v w n same is at = absurd (cc (same, is, at))
 own_less false true u v w n same is at = omega arith
 own_less false false u v w n same is at = omega arith
 
-first_by : (b : Bool) (u : ℕ) (order : Order) (told : Told) (s : State) → (told.unique == order.unique) ≡ b
-    → many u (if b then at_once order (Some told.result) s.view
-    else record {
-      view = (later told (at_once order None s.view).view).view;
-      changes = (later told (at_once order None s.view).view).changes ++ (at_once order None s.view).changes;
-    }).view.parked
-    ≤ (many u s.view.parked + bit (order.unique == u)) - bit (told.unique == u)
-first_by true u order told s is =
-    let same : many u (at_once order (Some told.result) s.view).view.parked ≡ many u s.view.parked =
-    ap (many u) (own_same order told.result s.view) in
-    let less = own_less (told.unique == u) (order.unique == u) u told.unique order.unique (many u s.view.parked)
+first_by : (b : Bool) (u : ℕ) (order : Order) (told : Told) (v : View) → (told.unique == order.unique) ≡ b
+    → many u (if b then at_once order (Some told.result) v else followed_by (later told) (at_once order None v)).view.parked
+    ≤ (many u v.parked + bit (order.unique == u)) - bit (told.unique == u)
+first_by true u order told v is =
+    let same : many u (at_once order (Some told.result) v).view.parked ≡ many u v.parked =
+    ap (many u) (own_same order told.result v) in
+    let less = own_less (told.unique == u) (order.unique == u) u told.unique order.unique (many u v.parked)
         (eqb-true told.unique order.unique is) refl refl in
     omega (arith, same, less)
-first_by false u order told s is =
-    less_by (told.unique == u) u told.unique (many u s.view.parked + bit (order.unique == u)) 0
-    (at_once order None s.view).view.parked (later told (at_once order None s.view).view).view.parked
-    (later_fewer u told (at_once order None s.view).view) refl (once_more u order None s.view)
+first_by false u order told v is =
+    less_by (told.unique == u) u told.unique (many u v.parked + bit (order.unique == u)) 0
+    (at_once order None v).view.parked (later told (at_once order None v).view).view.parked
+    (later_fewer u told (at_once order None v).view) refl (once_more u order None v)
+
+-- an order and its replies park no more than it
+
+laters_most : (u : ℕ) (e : Effect) (tolds : List Told)
+    → many u (fold (λ e t. followed_by (later t) e) e tolds).view.parked ≤ many u e.view.parked
+laters_most u e [] = omega arith
+laters_most u e (told ∷ tolds) =
+    let one = (later_fewer u told e.view).most in
+    let rest = laters_most u (followed_by (later told) e) tolds in
+    omega (arith, one, rest)
+
+pub replied_most : (u : ℕ) (order : Order) (tolds : List Told) (v : View)
+    → many u (replied order tolds v).view.parked ≤ many u v.parked + bit (order.unique == u)
+replied_most u order [] v = once_more u order None v
+replied_most u order (told ∷ tolds) v =
+    let first = first_by (told.unique == order.unique) u order told v refl in
+    let rest = laters_most u (told_first order told v) tolds in
+    omega (arith, first, rest)
 
 reply_less : (u : ℕ) (waiting : Option Order) (told : Told) (s : State)
     → many u (read_reply waiting told s).view.parked ≤ (many u s.view.parked + pending u waiting) - bit (told.unique == u)
@@ -185,7 +199,7 @@ reply_less u None told s =
     let less = less_by (told.unique == u) u told.unique (many u s.view.parked) 0 s.view.parked (later told s.view).view.parked
         (later_fewer u told s.view) refl le in
     omega (arith, less)
-reply_less u (Some order) told s = first_by (told.unique == order.unique) u order told s refl
+reply_less u (Some order) told s = first_by (told.unique == order.unique) u order told s.view refl
 
 line_counted : (u n : ℕ) (r : Reading) (l : Line) → weight u r ≤ n → weight u (read_line r l) ≤ counted u n l
 line_counted u n r (line.Asked worker order) le = let most = committed_most u r.waiting r.state in omega (arith, most, le)
@@ -197,14 +211,17 @@ lines_counted u n r [] le = le
 lines_counted u n r (l ∷ lines) le = lines_counted u (counted u n l) (read_line r l) lines (line_counted u n r l le)
 
 -- if none is left by this count, none is parked
-pub counted_free : (u : ℕ) (rules : Rules) (lines : List Line) → fold (counted u) 0 lines ≡ 0
-    → is_parked u (state_after rules lines).view.parked ≡ false
-counted_free u rules lines e =
+pub counted_none : (u : ℕ) (rules : Rules) (lines : List Line) → fold (counted u) 0 lines ≡ 0
+    → many u (state_after rules lines).view.parked ≡ 0
+counted_none u rules lines e =
     let start : weight u (unread rules) ≤ 0 = omega arith in
     let all = lines_counted u 0 (unread rules) lines start in
     let last = committed_most u (fold read_line (unread rules) lines).waiting (fold read_line (unread rules) lines).state in
-    let none : many u (state_after rules lines).view.parked ≡ 0 = omega (arith, e, all, last) in
-    none_parked u (state_after rules lines).view.parked none
+    omega (arith, e, all, last)
+
+pub counted_free : (u : ℕ) (rules : Rules) (lines : List Line) → fold (counted u) 0 lines ≡ 0
+    → is_parked u (state_after rules lines).view.parked ≡ false
+counted_free u rules lines e = none_parked u (state_after rules lines).view.parked (counted_none u rules lines e)
 
 -- lines of other uniques don't count
 other_counted : (u n : ℕ) (l : Line) → unique_in l ≢ u → counted u n l ≡ n

@@ -1,11 +1,13 @@
 -- What lines have of a unique that its client uses for one message.
-use Rattle.std.specs.Prelude.{◌≡◌, ◌≢◌, ℕ, ◌<◌, true, List, ◌∷◌, ◌++◌, length, Some, Ok}
+use Rattle.std.specs.Prelude.{◌≡◌, ◌≢◌, ℕ, ◌<◌, true, List, [], ◌∷◌, ◌++◌, length, Some, Ok, ⊤}
 use Rattle.std.specs.List.{AllByRecursion}
 use Rattle.fl_history.specs.declared.history.Line.{Line}
 use Rattle.fl_history.specs.declared.history.Line.TheVariants as line
 use Rattle.fl_order.specs.declared.order.Order.{Order}
 use Rattle.fl_order.specs.declared.told.Told.{Told}
 use Rattle.fl_session.specs.Again.{unmarked}
+use Rattle.fl_session.specs.Once.{SaysTheSame}
+use Rattle.fl_session.specs.Session.{Came}
 use Rattle.fl_wire.specs.Layout.{unique_of}
 use Rattle.fl_wire.specs.Says.{said}
 
@@ -17,6 +19,18 @@ unique_in (line.Told told) = told.unique
 -- no line has this unique
 abbrev pub HaveNothing : ℕ → List Line → Type 0
 HaveNothing unique lines = AllByRecursion (λ (l : Line). unique_in l ≢ unique) lines
+
+-- Of this unique lines have one order, and no reply. Fewer than 65,536 lines are behind the order.
+pub record HaveOrder (lines : List Line) (unique : ℕ) : Type 0 where
+  pub worker : ℕ
+  pub order : Order
+  pub before : List Line
+  pub after : List Line
+  pub named : order.unique ≡ unique
+  pub stand : lines ≡ before ++ line.Asked worker order ∷ after
+  pub none_before : HaveNothing unique before
+  pub none_after : HaveNothing unique after
+  pub near : length after < 65536
 
 -- Of its unique, lines have one order and behind it this reply. Fewer than 65,536 lines are behind the reply.
 pub record HaveReply (lines : List Line) (told : Told) : Type 0 where
@@ -31,6 +45,21 @@ pub record HaveReply (lines : List Line) (told : Told) : Type 0 where
   pub none_between : HaveNothing told.unique between
   pub none_after : HaveNothing told.unique after
   pub near : length after < 65536
+
+-- Each of these messages has a unique that no line has, and none of the others.
+abbrev pub HaveOwnUniques : List Line → List Came → Type 0
+HaveOwnUniques lines [] = ⊤
+HaveOwnUniques lines (c ∷ came) =
+    HaveNothing (unique_of c.message) lines
+    × AllByRecursion (λ (other : Came). unique_of other.message ≢ unique_of c.message) came × HaveOwnUniques lines came
+
+-- The others are these messages with a mark, and their orders are refused or not as those of these.
+abbrev pub AreMarked : List Came → List Came → Type 0
+AreMarked [] [] = ⊤
+AreMarked [] (m ∷ marked) = ⊥
+AreMarked (c ∷ came) [] = ⊥
+AreMarked (c ∷ came) (m ∷ marked) =
+    SaysTheSame c.message m.message × (m.refused ≡ c.refused) × AreMarked came marked
 
 -- a message is an order that is sent again, marked, and has this unique without its mark
 pub record IsOrderAgain (unique : ℕ) (message : List ℕ) : Type 0 where
