@@ -1,5 +1,5 @@
 -- A session that was cut off inside a batch.
-use Rattle.std.proofs.Common.{◌≡◌, ℕ, zero, suc, ◌≤◌, Bool, true, false, List, [], ◌∷◌, ◌++◌, length, drop, take, map, replicate, Option, None, Some}
+use Rattle.std.proofs.Common.{◌≡◌, ℕ, zero, suc, ◌+◌, ◌≤◌, Bool, true, false, List, [], ◌∷◌, ◌++◌, length, drop, take, map, replicate, Option, None, Some}
 use Rattle.std.proofs.Common.{refl, sym, ap, ◌∙◌, append_assoc, append-nil, arith}
 use Rattle.std.specs.Prelude.{if◌then◌else◌}
 use Rattle.std.specs.List.{AllByRecursion}
@@ -276,3 +276,31 @@ batch_as_one laws rules taken again unread marked c m count far cut all new =
     (fold-append with_message (opening_session rules) taken (c ∷ unread))
     (all_new a part.replies (with_message now m) (with_message first c) unread marked
     (agrees_on first c (ap (λ h. h.agreed) far)) ((by_message now m).resends ∙ knows) ((by_message first c).resends ∙ lacks) batch new))
+
+-- ---- a second cut inside it
+
+take_none : (n : ℕ) → ◌≡◌ {A = List Order} (take n []) []
+take_none zero = refl
+take_none (suc n) = refl
+
+taken_twice : (s : Session) (orders : List Order) (had more both : ℕ) → both ≡ had + more
+    → with_orders (with_orders s (take had orders) []) (take more (drop had orders)) [] ≡ with_orders s (take both orders) []
+taken_twice s orders zero more both e = ap (λ n. with_orders s (take n orders) []) (omega (arith, e))
+taken_twice s [] (suc had) more both e =
+    ap (λ os. with_orders s os []) (take_none more) ∙ sym (ap (λ os. with_orders s os []) (take_none both))
+taken_twice s (o ∷ orders) (suc had) more zero e = absurd (omega (arith, e))
+taken_twice s (o ∷ orders) (suc had) more (suc both) e = taken_twice (with_order s false o) orders had more both (omega (arith, e))
+
+pub twice_as_one : (first : Session) (again : List Came) (batch : List ℕ) (had more : ℕ)
+    → (part_of first batch had).handshake ≡ under_way → AllComeAgain (part_of first batch had) again
+    → AreAsOne (part_of first batch had)
+    (with_orders (session_from (resumed (part_of first batch had)) again) (take more (drop had (forgets_in batch))) [])
+    (part_of first batch (had + more)) again
+twice_as_one first again batch had more far all =
+    let part : Session = part_of first batch had in
+    let now : Session = session_from (resumed part) again in
+    let left : List Order = take more (drop had (forgets_in batch)) in
+    as_one part (with_orders now left []) (part_of first batch (had + more)) again
+    (goes_by (replies_again part again) part.replies (with_orders now left []) (part_of first batch (had + more))
+    (with_orders now left []) (with_orders part left []) refl (sym (taken_twice first (forgets_in batch) had more (had + more) refl))
+    (orders_go (replies_again part again) part.replies now part left [] (again_alike part again far all)))

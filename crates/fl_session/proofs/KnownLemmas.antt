@@ -42,13 +42,13 @@ has_each first other one again got two all =
     let sent : List (List ℕ) = replies_again first again in
     let has : List ℕ → Type 0 = Contains (got ++ other.replies) in
     let had : (x : List ℕ) → Contains (got ++ sent) x → has x = λ x in_it.
-        ⊎_elim (λ mine. Contains-append_left got other.replies x mine)
-        (λ theirs. Contains-append_right got other.replies x
-            (subst (λ l. Contains l x) (sym two.of_other) (Contains-append_left sent two.rest x theirs)))
-        (Contains-append_cases got sent x in_it) in
+    ⊎_elim (λ mine. Contains-append_left got other.replies x mine)
+    (λ theirs. Contains-append_right got other.replies x
+    (subst (λ l. Contains l x) (sym two.of_other) (Contains-append_left sent two.rest x theirs)))
+    (Contains-append_cases got sent x in_it) in
     let more : (x : List ℕ) → Contains two.rest x → has x = λ x in_it.
-        Contains-append_right got other.replies x
-        (subst (λ l. Contains l x) (sym two.of_other) (Contains-append_right sent two.rest x in_it)) in
+    Contains-append_right got other.replies x
+    (subst (λ l. Contains l x) (sym two.of_other) (Contains-append_right sent two.rest x in_it)) in
     All-same has one.replies (first.replies ++ two.rest) two.of_one
     (All-append has first.replies two.rest
     (All-widened (Contains (got ++ sent)) has first.replies had all)
@@ -158,7 +158,7 @@ flat_contains : {X A : Type 0} (f : X → List A) (xs : List X) (x : X) (a : A) 
 flat_contains f [] x a in_xs in_f = absurd (let lt = in_xs.1 in omega (arith, lt))
 flat_contains f (y ∷ xs) x a in_xs in_f =
     ⊎_elim (λ head. Contains-append_left (f y) (flat_map f xs) a
-        (subst (λ z. Contains (f z) a) (head_is head) in_f))
+    (subst (λ z. Contains (f z) a) (head_is head) in_f))
     (λ tail. Contains-append_right (f y) (flat_map f xs) a (flat_contains f xs x a tail in_f))
     (Contains-append_cases (y ∷ []) xs x in_xs)
   where

@@ -72,8 +72,8 @@ first_others u p order other none =
     let own : Option (Result answer.Answer Errno) = own_reply p.rules p.view p.marking order in
     both_others u (own_replies order own) (ended p.view order own) (own_others u order own other)
     (others_if (is_parked order.unique p.view.parked) u _ (elim (ending_of order.op own) as (λ x. AllOthers u (ended_if x p.view.parked)) [
-      None ↦ tt
-    | Some ending ↦ ended_others u (error_of ending) (picks ending) p.view.parked none
+      | None ↦ tt
+      | Some ending ↦ ended_others u (error_of ending) (picks ending) p.view.parked none
     ]))
 
 settled_others : (u : ℕ) {rules : Rules} {s after : Present} {tolds : List Told} → IsSettled rules s tolds after
@@ -210,5 +210,5 @@ own_new settles s (c ∷ came) (m ∷ marked) lacks own same = (
   same.1,
   nothing_unknown s (unique_of c.message) own.0,
   own_new settles (with_message s c) came marked ((by_message s c).resends ∙ lacks) (still_own settles s c came lacks own.1 own.2)
-  same.2,
+      same.2,
 )

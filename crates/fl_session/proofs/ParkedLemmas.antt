@@ -167,7 +167,7 @@ first_by true u order told v is =
     let same : many u (at_once order (Some told.result) v).view.parked ≡ many u v.parked =
     ap (many u) (own_same order told.result v) in
     let less = own_less (told.unique == u) (order.unique == u) u told.unique order.unique (many u v.parked)
-        (eqb-true told.unique order.unique is) refl refl in
+    (eqb-true told.unique order.unique is) refl refl in
     omega (arith, same, less)
 first_by false u order told v is =
     less_by (told.unique == u) u told.unique (many u v.parked + bit (order.unique == u)) 0
@@ -197,7 +197,7 @@ reply_less : (u : ℕ) (waiting : Option Order) (told : Told) (s : State)
 reply_less u None told s =
     let le : many u s.view.parked ≤ many u s.view.parked = omega arith in
     let less = less_by (told.unique == u) u told.unique (many u s.view.parked) 0 s.view.parked (later told s.view).view.parked
-        (later_fewer u told s.view) refl le in
+    (later_fewer u told s.view) refl le in
     omega (arith, less)
 reply_less u (Some order) told s = first_by (told.unique == order.unique) u order told s.view refl
 

@@ -20,7 +20,7 @@ unique_in (line.Told told) = told.unique
 abbrev pub HaveNothing : ℕ → List Line → Type 0
 HaveNothing unique lines = AllByRecursion (λ (l : Line). unique_in l ≢ unique) lines
 
--- Of this unique lines have one order, and no reply. Fewer than 65,536 lines are behind the order.
+-- Of this unique lines have one order, and no reply. Fewer than 65,536 lines stand behind the order.
 pub record HaveOrder (lines : List Line) (unique : ℕ) : Type 0 where
   pub worker : ℕ
   pub order : Order
@@ -32,7 +32,7 @@ pub record HaveOrder (lines : List Line) (unique : ℕ) : Type 0 where
   pub none_after : HaveNothing unique after
   pub near : length after < 65536
 
--- Of its unique, lines have one order and behind it this reply. Fewer than 65,536 lines are behind the reply.
+-- Of its unique, lines have one order, and behind it this reply. Fewer than 65,536 lines stand behind the reply.
 pub record HaveReply (lines : List Line) (told : Told) : Type 0 where
   pub worker : ℕ
   pub order : Order
@@ -46,14 +46,14 @@ pub record HaveReply (lines : List Line) (told : Told) : Type 0 where
   pub none_after : HaveNothing told.unique after
   pub near : length after < 65536
 
--- Each of these messages has a unique that no line has, and none of the others.
+-- Each of these messages has a unique of its own: no line has it, and no other of the messages.
 abbrev pub HaveOwnUniques : List Line → List Came → Type 0
 HaveOwnUniques lines [] = ⊤
 HaveOwnUniques lines (c ∷ came) =
     HaveNothing (unique_of c.message) lines
     × AllByRecursion (λ (other : Came). unique_of other.message ≢ unique_of c.message) came × HaveOwnUniques lines came
 
--- The others are these messages with a mark, and their orders are refused or not as those of these.
+-- The second messages are the first ones with a mark, and their orders are refused or not alike.
 abbrev pub AreMarked : List Came → List Came → Type 0
 AreMarked [] [] = ⊤
 AreMarked [] (m ∷ marked) = ⊥

@@ -1,33 +1,35 @@
 //! Laws of the definitions, in the words of their subject. Each is the contract of an empty function.
 //!
-//! The first three say what a session does that goes on behind the lines of one that was cut off. The others say how its
+//! The first five say what a session does that goes on behind the lines of one that was cut off. The others say how its
 //! client meets their conditions: it uses each unique for one message, and sends each message again, marked, whose order
 //! stands among the last 65,536 lines, or whose request is parked, and that it has no reply for.
 
-ghost use Rattle.std.specs.Prelude.{◌≡◌, ℕ, ◌++◌, true, false, All, Contains, List, ◌∷◌};
+ghost use Rattle.std.specs.Prelude.{◌≡◌, ℕ, ◌+◌, true, false, All, Contains, List, [], ◌∷◌, ◌++◌, take, drop};
 ghost use Rattle.fl_desk.specs.Replay.{state_after};
 ghost use Rattle.fl_order.specs.declared.told.Told.{Told};
-ghost use Rattle.fl_session.specs.AsOne.{AreAsOne, IsCutInside, IsSentAgain, part_of, replies_again};
+ghost use Rattle.fl_session.specs.AsOne.{AllPlain, AreAsOne, IsCutInside, IsSentAgain, part_of, replies_again};
 ghost use Rattle.fl_session.specs.Known.{AreMarked, HaveNothing, HaveOrder, HaveOwnUniques, HaveReply, IsOrderAgain};
 ghost use Rattle.fl_session.specs.Once.{AllComeAgain, AreNew, ComesAgain, IsUnknown, SaysTheSame, resumed, under_way};
-ghost use Rattle.fl_session.specs.Session.{Came, Session, session_from, session_of, with_message};
+ghost use Rattle.fl_session.specs.Session.{Came, Session, session_from, session_of, with_message, with_orders};
 ghost use Rattle.fl_transport.specs.Handshake.{incoming_by};
 ghost use Rattle.fl_transport.specs.Response.{bytes_of};
 ghost use Rattle.fl_transport.specs.declared.handshake.Incoming.TheVariants as incoming;
 ghost use Rattle.fl_transport.specs.declared.response.Response.{Response};
 ghost use Rattle.fl_waiting.specs.Waiting.{is_parked};
 ghost use Rattle.fl_waiting.specs.declared.rules.Rules.{Rules};
+ghost use Rattle.fl_wire.specs.Batch.{forgets_in};
 ghost use Rattle.fl_wire.specs.Says.{said};
 ghost use Rattle.fl_wire.specs.Spell.{spelling_of};
 
 use fl_core::laws::settling_answers_the_oldest_first;
 use fl_desk::laws::{a_legal_history_goes_on_by_orders, own_reply_comes_first};
 
-/// A session was cut off. Of the messages that had been sent to it, its lines have the orders of `taken`, and lack those
-/// of `unread`. Another goes on behind these lines. Once its INIT is agreed, messages come to it again whose orders the
-/// first one had, and then those that it lacked, marked. Then its lines are those of one session that wasn't cut off: no
-/// order is taken twice, and none is left out. It sends what the lines have for the messages that came again, and then
-/// what that one session sends behind the replies of the first. If it is cut off too, the law is the same for the next.
+/// A session was cut off. Of the messages that had been sent to it, its lines have the orders of `taken`, and lack
+/// those of `unread`. Another goes on behind these lines. Once its INIT is agreed, messages come to it again whose
+/// orders the first one had, and then those that it lacked, marked. Then its lines are those of one session that wasn't
+/// cut off: no order is taken twice, and none is left out. It sends what the lines have for the messages that came
+/// again, and then what that one session sends behind the replies of the first. If it is cut off too, the law is the
+/// same for the next.
 pub fn a_session_goes_on_as_one()
     ensures { (rules : Rules) (taken again unread marked : List Came)
         → IsSentAgain (session_of rules taken) again unread marked
@@ -35,9 +37,9 @@ pub fn a_session_goes_on_as_one()
         (session_of rules (taken ++ unread)) again }
 {}
 
-/// The same of a cut inside a batch: the lines have so many of its orders, and none of these was refused. The batch comes
-/// again, marked, behind the messages whose orders the lines have, and before those that they lack. As many orders as they
-/// have are left out, and the others are taken.
+/// The same of a cut inside a batch: the lines have so many of its orders, and none of these was refused. The batch
+/// comes again, marked, behind the messages whose orders the lines have, and before those that they lack. As many
+/// orders as they have are left out, and the others are taken.
 pub fn a_batch_goes_on_as_one()
     ensures { (rules : Rules) (taken again unread marked : List Came) (batch same : Came) (count : ℕ)
         → (session_of rules taken).handshake ≡ under_way → IsCutInside (session_of rules taken) count batch same
@@ -52,16 +54,32 @@ pub fn a_batch_goes_on_as_one()
     a_legal_history_goes_on_by_orders();
 }
 
-/// The client got some of the replies of a session that was cut off, and those of the session that went on. If each reply
-/// of the first is one that it got, or is sent again, then it has each reply of the one session, once or again.
+/// A second cut inside the same batch: the session that went on took some more orders of it, and refused none. Then it is
+/// as if the first one had taken these too, so the next goes on as `a_batch_goes_on_as_one` says.
+pub fn a_batch_can_be_cut_twice()
+    ensures { (first : Session) (again : List Came) (batch : List ℕ) (had more : ℕ)
+        → (part_of first batch had).handshake ≡ under_way → AllComeAgain (part_of first batch had) again
+        → AreAsOne (part_of first batch had)
+        (with_orders (session_from (resumed (part_of first batch had)) again) (take more (drop had (forgets_in batch))) [])
+        (part_of first batch (had + more)) again }
+{}
+
+/// The client got some of the replies of a session that was cut off, and those of the session that went on. If each
+/// reply of the first is one that it got, or is sent again, then it has each reply of the one session, once or again.
 pub fn its_client_has_each_reply()
     ensures { (first other one : Session) (again : List Came) (got : List (List ℕ)) → AreAsOne first other one again
         → All (Contains (got ++ replies_again first again)) first.replies
         → All (Contains (got ++ other.replies)) one.replies }
 {}
 
-/// The reply to an order, if it is among the last 65,536 lines, is sent again to its message. So is what the session itself
-/// answered to a message.
+/// New messages that come later to both, without a mark, are taken and answered alike.
+pub fn later_messages_are_as_in_one_session()
+    ensures { (first other one : Session) (again later : List Came) → AreAsOne first other one again → AllPlain later
+        → AreAsOne first (session_from other later) (session_from one later) again }
+{}
+
+/// The reply to an order, if it is among the last 65,536 lines, is sent again to its message. So is what the session
+/// itself answered to a message.
 pub fn a_reply_is_sent_again()
     ensures stored { (s : Session) (again : List Came) (c : Came) (told : Told) → HaveReply s.lines told
         → Contains again c → IsOrderAgain told.unique c.message → Contains (replies_again s again) (spelling_of told) }
@@ -70,8 +88,8 @@ pub fn a_reply_is_sent_again()
         → Contains (bytes_of response) reply → Contains again same → Contains (replies_again s again) reply }
 {}
 
-/// A session has the order of a message if its reply is among the last 65,536 lines, or the order itself without a reply,
-/// or if its request is parked.
+/// A session has the order of a message if its reply is among the last 65,536 lines, or the order itself without a
+/// reply, or if its request is parked.
 pub fn a_message_comes_again_whose_order_is_there()
     ensures replied { (s : Session) (told : Told) (message : List ℕ) → HaveReply s.lines told
         → IsOrderAgain told.unique message → ComesAgain s message }
