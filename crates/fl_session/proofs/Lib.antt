@@ -1,6 +1,7 @@
 pub mod AgainLemmas
 pub mod BatchLemmas
 pub mod KnownLemmas
+pub mod LaterLemmas
 pub mod MeetLemmas
 pub mod NewLemmas
 pub mod OnceLemmas

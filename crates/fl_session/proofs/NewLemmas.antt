@@ -1,14 +1,13 @@
 -- Messages that have uniques of their own are new, one after another.
-use Rattle.std.proofs.Common.{◌≡◌, ℕ, ◌+◌, ◌≤◌, Bool, true, false, List, [], ◌∷◌, ◌++◌, map, Option, None, Some}
-use Rattle.std.proofs.Common.{refl, sym, ap, subst, ◌∙◌, arith}
+use Rattle.std.proofs.Common.{◌≡◌, ℕ, Bool, true, false, List, [], ◌∷◌, ◌++◌, map, Option, None, Some}
+use Rattle.std.proofs.Common.{sym, ap, subst, ◌∙◌, arith}
 use Rattle.std.specs.Prelude.{cond, if◌then◌else◌, ◌==◌, ◌≢◌, Result, Ok, Err}
 use Rattle.std.specs.List.{AllByRecursion, filter}
 use Rattle.std.proofs.lemmas.Bool.{eq-eqb, ne_eqb}
-use Rattle.fl_core.specs.Effects.{replied}
 use Rattle.fl_core.specs.Replies.{ended, ended_all, ended_if, ended_with, ending_of, error_of, first_told, own_replies, own_reply, picks}
-use Rattle.fl_core.specs.Settling.{IsSettled, Present, done, granted_told, one, present, settled}
+use Rattle.fl_core.specs.Settling.{IsSettled, Present, done, one, present, settled}
 use Rattle.fl_core.specs.State.{Snapshot, snapshot_of}
-use Rattle.fl_core.specs.Step.{after_first, replies, replies_in}
+use Rattle.fl_core.specs.Step.{after_first, replies}
 use Rattle.fl_desk.specs.Legal.{step_lines}
 use Rattle.fl_desk.specs.Replay.{AllOthers, state_after}
 use Rattle.fl_history.specs.declared.history.Line.{Line}
@@ -25,7 +24,7 @@ use Rattle.fl_session.proofs.KnownLemmas.{nothing_unknown}
 use Rattle.fl_session.proofs.ParkedLemmas.{bit, counted_none, many, many_append, others_counted, replied_most}
 use Rattle.fl_session.proofs.RulesLemmas.{by_message}
 use Rattle.fl_session.specs.Again.{unmarked}
-use Rattle.fl_session.specs.Known.{AreMarked, HaveNothing, HaveOwnUniques, unique_in}
+use Rattle.fl_session.specs.Known.{AreMarked, HaveNothing, HaveOwnUniques}
 use Rattle.fl_session.specs.Once.{AreNew, orders_in}
 use Rattle.fl_session.specs.Session.{Came, Session, with_either, with_incoming, with_message, with_order, with_orders}
 use Rattle.fl_transport.specs.Handshake.{advanced, incoming_by, incoming_of, own_answer}
@@ -34,7 +33,7 @@ use Rattle.fl_transport.specs.declared.handshake.Incoming.TheVariants as incomin
 use Rattle.fl_waiting.specs.Waiting.{is_parked}
 use Rattle.fl_waiting.specs.declared.parked.Request.{Request}
 use Rattle.fl_waiting.specs.declared.rules.Rules.{Rules}
-use Rattle.fl_wire.specs.Batch.{forget_at, forgets_in, is_batch}
+use Rattle.fl_wire.specs.Batch.{forget_at, is_batch}
 use Rattle.fl_wire.specs.Layout.{opcode_of, unique_of}
 use Rattle.fl_wire.specs.Says.{asked, order_of, said}
 

@@ -1,7 +1,7 @@
 -- A session that was cut off and goes on, beside one that wasn't.
 use Rattle.std.proofs.Common.{◌≡◌, ℕ, Bool, true, false, ◌||◌, List, [], ◌∷◌, ◌++◌, length, drop, map, Option, None, Some}
 use Rattle.std.proofs.Common.{refl, sym, ap, subst, ◌∙◌, append_assoc, append-nil}
-use Rattle.std.specs.Prelude.{if◌then◌else◌, nat_le, ◌^◌}
+use Rattle.std.specs.Prelude.{if◌then◌else◌}
 use Rattle.std.proofs.Math.ListN.{drop_of_length-le}
 use Rattle.std.proofs.lemmas.Grind.{fold-append}
 use Rattle.std.proofs.lemmas.List.{length-map}
@@ -15,7 +15,7 @@ use Rattle.fl_order.specs.Order.{kind_of}
 use Rattle.fl_order.specs.declared.order.Order.{Order}
 use Rattle.fl_session.proofs.RulesLemmas.{by_message}
 use Rattle.fl_session.specs.Again.{incoming_under, order_under, unmarked}
-use Rattle.fl_session.specs.AsOne.{AllPlain, AreAsOne, IsSentAgain, replies_again, reply_again, reply_in, reply_unmarked}
+use Rattle.fl_session.specs.AsOne.{AreAsOne, IsSentAgain, replies_again, reply_again, reply_in, reply_unmarked}
 use Rattle.fl_session.specs.Once.{AllComeAgain, AreNew, ComesAgain, IsUnknown, SaysTheSame, has_all, is_had, orders_in, resumed, under_way}
 use Rattle.fl_session.specs.Session.{Came, Session, opening_session, session_from, session_of, with_again, with_either, with_incoming}
 use Rattle.fl_session.specs.Session.{with_message, with_order, with_orders, with_orders_again, with_recalled, with_response}
@@ -234,7 +234,7 @@ new_by : (waits : Bool) (found : Recalled) (s : Session) (orders : List Order) (
     → found ≡ recall.Asked 0 → (if waits then s else with_recalled s found orders refused) ≡ with_orders s orders refused
 new_by waits found s orders refused free none = rw (free, none) refl
 
-response_goes : (a b : List (List ℕ)) (s t : Session) (response : Response) → GoAlike a b s t
+pub response_goes : (a b : List (List ℕ)) (s t : Session) (response : Response) → GoAlike a b s t
     → GoAlike a b (with_response s response) (with_response t response)
 response_goes a b s t response g =
     grown a b s t (with_response s response) (with_response t response) (bytes_of response) _ g
@@ -366,66 +366,6 @@ as_one first other one again g = record {
     handshake = g.alike.handshake i;
   };
 }
-
--- ---- messages that come later, without a mark
-
-incoming_goes : (a b : List (List ℕ)) (s t : Session) (refused : List Bool) (it : Incoming) → GoAlike a b s t
-    → GoAlike a b (with_incoming s refused it) (with_incoming t refused it)
-incoming_goes a b s t refused (incoming.Order order) g = orders_go a b s t (order ∷ []) refused g
-incoming_goes a b s t refused (incoming.Batch orders) g = orders_go a b s t orders refused g
-incoming_goes a b s t refused (incoming.Response response) g = response_goes a b s t response g
-
-goes_if : (over : Bool) (a b : List (List ℕ)) (s t now after : Session) → GoAlike a b s t → GoAlike a b now after
-    → GoAlike a b (if over then s else now) (if over then t else after)
-goes_if true a b s t now after first second = first
-goes_if false a b s t now after first second = second
-
--- a session that is as far as this, with a message that isn't known as one that is sent again
-abbrev with_plain : Session → Handshake → Came → Session
-with_plain s h c =
-    if h.over then s
-    else with_incoming (record s { handshake = advanced h c.message }) c.refused (incoming_of h c.message)
-
-plain_is : (s : Session) (c : Came) → nat_le (2 ^ 63) (unique_of c.message) ≡ false
-    → with_message s c ≡ with_plain s s.handshake c
-plain_is s c plain = ap (λ marked. if s.handshake.over then s
-    else with_either (record s { handshake = advanced s.handshake c.message }) marked c.refused (incoming_of s.handshake c.message))
-    (none s.resends)
-  where
-    none : (resends : Bool) → unmarked resends (unique_of c.message) ≡ None
-    none true = rw plain refl
-    none false = refl
-
-plain_goes : (a b : List (List ℕ)) (s t : Session) (c : Came) → nat_le (2 ^ 63) (unique_of c.message) ≡ false
-    → GoAlike a b s t → GoAlike a b (with_message s c) (with_message t c)
-plain_goes a b s t c plain g =
-    let h : Handshake = t.handshake in
-    goes_by a b (with_message s c) (with_message t c) (with_plain s h c) (with_plain t h c)
-    (plain_is s c plain ∙ ap (λ h. with_plain s h c) g.alike.handshake) (plain_is t c plain)
-    (goes_if h.over a b s t _ _ g
-    (incoming_goes a b (record s { handshake = advanced h c.message }) (record t { handshake = advanced h c.message }) c.refused
-    (incoming_of h c.message) (moved_alike a b s t (advanced h c.message) g)))
-
-later_goes : (a b : List (List ℕ)) (s t : Session) (later : List Came) → AllPlain later → GoAlike a b s t
-    → GoAlike a b (session_from s later) (session_from t later)
-later_goes a b s t [] plain g = g
-later_goes a b s t (c ∷ later) plain g =
-    later_goes a b (with_message s c) (with_message t c) later plain.1 (plain_goes a b s t c plain.0 g)
-
-pub later_as_one : (first other one : Session) (again later : List Came) → AreAsOne first other one again → AllPlain later
-    → AreAsOne first (session_from other later) (session_from one later) again
-later_as_one first other one again later two plain =
-    as_one first (session_from other later) (session_from one later) again
-    (later_goes (replies_again first again) first.replies other one later plain (record {
-      alike = record {
-        rules = ap (λ s. s.rules) two.resumed;
-        handshake = ap (λ s. s.handshake) two.resumed;
-        lines = two.lines;
-      };
-      rest = two.rest;
-      left = two.of_other;
-      right = two.of_one;
-    }))
 
 -- ---- a whole session
 
