@@ -2,6 +2,7 @@ pub mod AgainLemmas
 pub mod BatchLemmas
 pub mod KnownLemmas
 pub mod LaterLemmas
+pub mod MarkLemmas
 pub mod MeetLemmas
 pub mod NewLemmas
 pub mod OnceLemmas

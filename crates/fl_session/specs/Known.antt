@@ -1,5 +1,5 @@
 -- What lines have of a unique that its client uses for one message.
-use Rattle.std.specs.Prelude.{◌≡◌, ◌≢◌, ℕ, ◌<◌, true, List, [], ◌∷◌, ◌++◌, length, Some, Ok, ⊤}
+use Rattle.std.specs.Prelude.{◌≡◌, ◌≢◌, ℕ, ◌+◌, ◌<◌, true, List, [], ◌∷◌, ◌++◌, length, set, slice_index, Some, Ok, ⊤}
 use Rattle.std.specs.List.{AllByRecursion}
 use Rattle.fl_history.specs.declared.history.Line.{Line}
 use Rattle.fl_history.specs.declared.history.Line.TheVariants as line
@@ -52,6 +52,10 @@ HaveOwnUniques lines [] = ⊤
 HaveOwnUniques lines (c ∷ came) =
     HaveNothing (unique_of c.message) lines
     × AllByRecursion (λ (other : Came). unique_of other.message ≢ unique_of c.message) came × HaveOwnUniques lines came
+
+-- The message with its mark: bit 63 of its unique, whose bytes are the eighth to the fifteenth, counted from 0.
+abbrev pub with_mark : List ℕ → List ℕ
+with_mark message = set message 15 (slice_index message 15 + 128)
 
 -- The second messages are the first ones with a mark, and their orders are refused or not alike.
 abbrev pub AreMarked : List Came → List Came → Type 0

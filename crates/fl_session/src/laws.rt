@@ -1,14 +1,14 @@
 //! Laws of the definitions, in the words of their subject. Each is the contract of an empty function.
 //!
 //! The first five say what a session does that goes on behind the lines of one that was cut off. The others say how its
-//! client meets their conditions: it uses each unique for one message, and sends each message again, marked, whose order
-//! stands among the last 65,536 lines, or whose request is parked, and that it has no reply for.
+//! client meets their conditions: it uses each unique for one message, and sends again, with a mark, each that it has no
+//! reply for and whose order or reply is among the last 65,536 lines, or whose request is parked, or that is new.
 
-ghost use Rattle.std.specs.Prelude.{◌≡◌, ℕ, ◌+◌, true, false, All, Contains, List, [], ◌∷◌, ◌++◌, take, drop};
+ghost use Rattle.std.specs.Prelude.{◌≡◌, ◌≤◌, ℕ, ◌+◌, true, false, All, Contains, List, [], ◌∷◌, ◌++◌, length, take, drop};
 ghost use Rattle.fl_desk.specs.Replay.{state_after};
 ghost use Rattle.fl_order.specs.declared.told.Told.{Told};
 ghost use Rattle.fl_session.specs.AsOne.{AllPlain, AreAsOne, IsCutInside, IsSentAgain, part_of, replies_again};
-ghost use Rattle.fl_session.specs.Known.{AreMarked, HaveNothing, HaveOrder, HaveOwnUniques, HaveReply, IsOrderAgain};
+ghost use Rattle.fl_session.specs.Known.{AreMarked, HaveNothing, HaveOrder, HaveOwnUniques, HaveReply, IsOrderAgain, with_mark};
 ghost use Rattle.fl_session.specs.Once.{AllComeAgain, AreNew, ComesAgain, IsUnknown, SaysTheSame, resumed, under_way};
 ghost use Rattle.fl_session.specs.Session.{Came, Session, session_from, session_of, with_message, with_orders};
 ghost use Rattle.fl_transport.specs.Handshake.{incoming_by};
@@ -112,3 +112,8 @@ pub fn messages_with_uniques_of_their_own_are_new()
 {
     settling_answers_the_oldest_first();
 }
+
+/// A message with its mark says what it says without it.
+pub fn a_mark_says_nothing_else()
+    ensures { (message : List ℕ) → 16 ≤ length message → SaysTheSame message (with_mark message) }
+{}
