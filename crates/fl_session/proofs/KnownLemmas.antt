@@ -1,10 +1,10 @@
 -- What a client gets that uses each unique for one message.
 use Rattle.std.proofs.Common.{◌≡◌, ℕ, zero, suc, ◌-◌, ◌≤◌, Bool, true, false, ◌||◌, ◌+◌, List, [], ◌∷◌, ◌++◌, length, drop, Some}
 use Rattle.std.proofs.Common.{refl, sym, ap, subst, ◌∙◌, arith, length-append, ⊎_elim}
-use Rattle.std.specs.Prelude.{All, Contains, flat_map, fold, if◌then◌else◌, ◌≢◌, slice_index_or}
-use Rattle.std.proofs.lemmas.Bool.{eq-eqb, ne_eqb}
+use Rattle.std.specs.Prelude.{All, Contains, flat_map, fold, if◌then◌else◌, nat_le, ◌≢◌, slice_index_or}
+use Rattle.std.proofs.lemmas.Bool.{eq-eqb, le-leb, ne_eqb}
 use Rattle.std.proofs.lemmas.Grind.{fold-append}
-use Rattle.std.proofs.lemmas.List.{drop-append-le}
+use Rattle.std.proofs.lemmas.List.{drop-append-le, length-map}
 use Rattle.std.proofs.lemmas.List.Elements.{All-append, All-contains_itself, All-same, Contains-append_cases, Contains-append_left, Contains-append_right}
 use Rattle.fl_desk.specs.Replay.{state_after}
 use Rattle.fl_history.specs.Recent.{recalled, recent, with_ask, with_line}
@@ -15,10 +15,10 @@ use Rattle.fl_history.specs.declared.recent.Recalled.TheVariants as recall
 use Rattle.fl_order.specs.declared.order.Order.{Order}
 use Rattle.fl_order.specs.declared.told.Told.{Told}
 use Rattle.fl_session.proofs.ParkedLemmas.{counted_free, others_counted, replied_free}
-use Rattle.fl_session.proofs.RecallLemmas.{behind_unsaid}
+use Rattle.fl_session.proofs.RecallLemmas.{asks, asks_counted, behind_unsaid}
 use Rattle.fl_session.specs.Again.{incoming_under, response_under, unmarked}
 use Rattle.fl_session.specs.AsOne.{AreAsOne, replies_again, reply_again, reply_in, reply_unmarked}
-use Rattle.fl_session.specs.Known.{HaveNothing, HaveOrder, HaveReply, IsOrderAgain, unique_in}
+use Rattle.fl_session.specs.Known.{HaveBatch, HaveNothing, HaveOrder, HaveReply, IsBatchAgain, IsOrderAgain, unique_in}
 use Rattle.fl_session.specs.Once.{ComesAgain, IsUnknown, SaysTheSame, has_all, is_had, orders_in}
 use Rattle.fl_session.specs.Session.{Came, Session}
 use Rattle.fl_transport.specs.Handshake.{incoming_by, says_destroy}
@@ -27,6 +27,7 @@ use Rattle.fl_transport.specs.declared.handshake.Incoming.{Incoming}
 use Rattle.fl_transport.specs.declared.handshake.Incoming.TheVariants as incoming
 use Rattle.fl_transport.specs.declared.response.Response.{Response}
 use Rattle.fl_waiting.specs.Waiting.{is_parked}
+use Rattle.fl_wire.specs.Batch.{forgets_in}
 use Rattle.fl_wire.specs.Layout.{unique_of}
 use Rattle.fl_wire.specs.Says.{said}
 use Rattle.fl_wire.specs.Spell.{spelling_of}
@@ -113,6 +114,24 @@ order_recalled lines u h =
     ∙ ap (λ b. fold (with_line u) b h.after) (asked_said u h.worker h.order h.named)
     ∙ others_said u (recall.Asked 1) h.after h.none_after
 
+batch_recalled : (lines : List Line) (unique : ℕ) (orders : List Order) → HaveBatch lines unique orders
+    → recalled unique (recent lines) ≡ recall.Asked (0 + length orders)
+batch_recalled lines u orders h =
+    let back : List Line = asks orders ++ h.after in
+    let n : ℕ = length (h.before ++ back) - 65536 in
+    let long = length-append h.before back in
+    let behind : length back ≡ length orders + length h.after =
+    length-append (asks orders) h.after ∙ ap (λ k. k + length h.after) (length-map orders (λ order. line.Asked 0 order)) in
+    let near = h.near in
+    let within : n ≤ length h.before = omega (arith, long, behind, near) in
+    ap (λ l. recalled u (recent l)) h.stand
+    ∙ ap (recalled u) (drop-append-le n h.before back within)
+    ∙ fold-append (with_line u) (recall.Asked 0) (drop n h.before) back
+    ∙ ap (λ b. fold (with_line u) b back) (behind_unsaid u n h.before (others_said u (recall.Asked 0) h.before h.none_before))
+    ∙ fold-append (with_line u) (recall.Asked 0) (asks orders) h.after
+    ∙ ap (λ b. fold (with_line u) b h.after) (asks_counted u 0 orders h.named)
+    ∙ others_said u (recall.Asked (0 + length orders)) h.after h.none_after
+
 -- ---- a message whose order is there comes again
 
 or_true : (a : Bool) → (a || true) ≡ true
@@ -146,6 +165,22 @@ pub parked_comes : (s : Session) (unique : ℕ) (message : List ℕ)
     → is_parked unique (state_after s.rules s.lines).view.parked ≡ true → IsOrderAgain unique message → ComesAgain s message
 parked_comes s unique message waits order =
     comes_by s unique message order (ap (λ b. b || has_all (recalled unique (recent s.lines)) 1) waits)
+
+pub batch_comes : (s : Session) (unique : ℕ) (orders : List Order) (message : List ℕ) → HaveBatch s.lines unique orders
+    → IsBatchAgain unique (length orders) message → ComesAgain s message
+batch_comes s unique orders message h batch =
+    let waits : Bool = is_parked unique (state_after s.rules s.lines).view.parked in
+    let counted = batch.counted in
+    let all : nat_le (length (forgets_in message)) (0 + length orders) ≡ true =
+    le-leb (length (forgets_in message)) (0 + length orders) (omega (arith, counted)) in
+    record {
+      unique = unique;
+      marked = batch.marked;
+      stays = ap says_destroy batch.says;
+      had = ap (λ says. is_had s unique (length (orders_in (incoming_by message says)))) batch.says
+          ∙ ap (λ r. waits || has_all r (length (forgets_in message))) (batch_recalled s.lines unique orders h)
+          ∙ ap (λ b. waits || b) all ∙ or_true waits;
+    }
 
 -- ---- what is sent again
 

@@ -67,7 +67,7 @@ later_unsaid unique (suc m) (suc n) (l ∷ lines) le e = later_unsaid unique m n
 abbrev pub asks : List Order → List Line
 asks orders = map (λ order. line.Asked 0 order) orders
 
-asks_counted : (unique count : ℕ) (orders : List Order) → AllByRecursion (λ (o : Order). o.unique ≡ unique) orders
+pub asks_counted : (unique count : ℕ) (orders : List Order) → AllByRecursion (λ (o : Order). o.unique ≡ unique) orders
     → fold (with_line unique) (recall.Asked count) (asks orders) ≡ recall.Asked (count + length orders)
 asks_counted unique count [] all = ap recall.Asked (omega arith)
 asks_counted unique count (o ∷ orders) all =

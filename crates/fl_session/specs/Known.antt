@@ -1,13 +1,15 @@
 -- What lines have of a unique that its client uses for one message.
-use Rattle.std.specs.Prelude.{◌≡◌, ◌≢◌, ℕ, ◌+◌, ◌<◌, true, List, [], ◌∷◌, ◌++◌, length, set, slice_index, Some, Ok, ⊤}
+use Rattle.std.specs.Prelude.{◌≡◌, ◌≢◌, ℕ, ◌+◌, ◌<◌, ◌≤◌, true, List, [], ◌∷◌, ◌++◌, length, map, set, slice_index, Some, Ok, Err, ⊤}
 use Rattle.std.specs.List.{AllByRecursion}
 use Rattle.fl_history.specs.declared.history.Line.{Line}
 use Rattle.fl_history.specs.declared.history.Line.TheVariants as line
 use Rattle.fl_order.specs.declared.order.Order.{Order}
+use Rattle.fl_order.specs.declared.refusal.Refusal.TheVariants.{Batch}
 use Rattle.fl_order.specs.declared.told.Told.{Told}
 use Rattle.fl_session.specs.Again.{unmarked}
 use Rattle.fl_session.specs.Once.{SaysTheSame}
 use Rattle.fl_session.specs.Session.{Came}
+use Rattle.fl_wire.specs.Batch.{forgets_in}
 use Rattle.fl_wire.specs.Layout.{unique_of}
 use Rattle.fl_wire.specs.Says.{said}
 
@@ -31,6 +33,17 @@ pub record HaveOrder (lines : List Line) (unique : ℕ) : Type 0 where
   pub none_before : HaveNothing unique before
   pub none_after : HaveNothing unique after
   pub near : length after < 65536
+
+-- Of this unique lines have these orders of one batch, side by side, and no reply. With the lines behind them these are at
+-- most 65,536.
+pub record HaveBatch (lines : List Line) (unique : ℕ) (orders : List Order) : Type 0 where
+  pub before : List Line
+  pub after : List Line
+  pub named : AllByRecursion (λ (order : Order). order.unique ≡ unique) orders
+  pub stand : lines ≡ before ++ (map (λ order. line.Asked 0 order) orders ++ after)
+  pub none_before : HaveNothing unique before
+  pub none_after : HaveNothing unique after
+  pub near : length orders + length after ≤ 65536
 
 -- Of its unique, lines have one order, and behind it this reply. Fewer than 65,536 lines stand behind the reply.
 pub record HaveReply (lines : List Line) (told : Told) : Type 0 where
@@ -70,3 +83,9 @@ pub record IsOrderAgain (unique : ℕ) (message : List ℕ) : Type 0 where
   pub order : Order
   pub marked : unmarked true (unique_of message) ≡ Some unique
   pub says : said message ≡ Ok order
+
+-- a message is a batch of so many orders that is sent again, marked, and has this unique without its mark
+pub record IsBatchAgain (unique count : ℕ) (message : List ℕ) : Type 0 where
+  pub marked : unmarked true (unique_of message) ≡ Some unique
+  pub says : said message ≡ Err Batch
+  pub counted : length (forgets_in message) ≡ count

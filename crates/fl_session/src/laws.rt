@@ -6,9 +6,11 @@
 
 ghost use Rattle.std.specs.Prelude.{◌≡◌, ◌≤◌, ℕ, ◌+◌, true, false, All, Contains, List, [], ◌∷◌, ◌++◌, length, take, drop};
 ghost use Rattle.fl_desk.specs.Replay.{state_after};
+ghost use Rattle.fl_order.specs.declared.order.Order.{Order};
 ghost use Rattle.fl_order.specs.declared.told.Told.{Told};
 ghost use Rattle.fl_session.specs.AsOne.{AllPlain, AreAsOne, IsCutInside, IsSentAgain, part_of, replies_again};
-ghost use Rattle.fl_session.specs.Known.{AreMarked, HaveNothing, HaveOrder, HaveOwnUniques, HaveReply, IsOrderAgain, with_mark};
+ghost use Rattle.fl_session.specs.Known.{AreMarked, HaveBatch, HaveNothing, HaveOrder, HaveOwnUniques, HaveReply};
+ghost use Rattle.fl_session.specs.Known.{IsBatchAgain, IsOrderAgain, with_mark};
 ghost use Rattle.fl_session.specs.Once.{AllComeAgain, AreNew, ComesAgain, IsUnknown, SaysTheSame, resumed, under_way};
 ghost use Rattle.fl_session.specs.Session.{Came, Session, session_from, session_of, with_message, with_orders};
 ghost use Rattle.fl_transport.specs.Handshake.{incoming_by};
@@ -89,12 +91,14 @@ pub fn a_reply_is_sent_again()
 {}
 
 /// A session has the order of a message if its reply is among the last 65,536 lines, or the order itself without a
-/// reply, or if its request is parked.
+/// reply, or if its request is parked. It has those of a batch if they all are among these lines.
 pub fn a_message_comes_again_whose_order_is_there()
     ensures replied { (s : Session) (told : Told) (message : List ℕ) → HaveReply s.lines told
         → IsOrderAgain told.unique message → ComesAgain s message }
     ensures asked { (s : Session) (unique : ℕ) (message : List ℕ) → HaveOrder s.lines unique
         → IsOrderAgain unique message → ComesAgain s message }
+    ensures batch { (s : Session) (unique : ℕ) (orders : List Order) (message : List ℕ) → HaveBatch s.lines unique orders
+        → IsBatchAgain unique (length orders) message → ComesAgain s message }
     ensures parked { (s : Session) (unique : ℕ) (message : List ℕ)
         → is_parked unique (state_after s.rules s.lines).view.parked ≡ true → IsOrderAgain unique message
         → ComesAgain s message }
