@@ -30,7 +30,8 @@ reply_in (recall.Asked count) = []
 -- that the last lines have, if they have one.
 abbrev pub reply_had : Session → ℕ → List (List ℕ)
 reply_had s unique =
-    if is_parked unique (state_after s.rules s.lines).view.parked then [] else reply_in (recalled unique (recent s.lines))
+    if is_parked unique (state_after s.rules s.lines).view.parked then []
+    else reply_in (recalled unique (recent s.lines))
 
 -- what it sends when a message of this unique comes again: that, or what the session itself answers
 abbrev pub reply_again : Session → ℕ → Incoming → List (List ℕ)

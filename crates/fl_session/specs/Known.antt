@@ -34,8 +34,8 @@ pub record HaveOrder (lines : List Line) (unique : ℕ) : Type 0 where
   pub none_after : HaveNothing unique after
   pub near : length after < 65536
 
--- Of this unique lines have these orders of one batch, side by side, and no reply. With the lines behind them these are at
--- most 65,536.
+-- Of this unique lines have these orders of one batch, side by side, and no reply. With the lines behind them these are
+-- at most 65,536.
 pub record HaveBatch (lines : List Line) (unique : ℕ) (orders : List Order) : Type 0 where
   pub before : List Line
   pub after : List Line

@@ -1,10 +1,11 @@
 //! Laws of the definitions, in the words of their subject. Each is the contract of an empty function.
 //!
 //! The first five say what a session does that goes on behind the lines of one that was cut off. The others say how its
-//! client meets their conditions: it uses each unique for one message, and sends again, with a mark, each that it has no
-//! reply for and whose order or reply is among the last 65,536 lines, or whose request is parked, or that is new.
+//! client meets their conditions: it uses each unique for one message, and sends again, with a mark, each that it has
+//! no reply for and whose order or reply is among the last 65,536 lines, or whose request is parked, or that is new.
 
-ghost use Rattle.std.specs.Prelude.{◌≡◌, ◌≤◌, ℕ, ◌+◌, true, false, All, Contains, List, [], ◌∷◌, ◌++◌, length, take, drop};
+ghost use Rattle.std.specs.Prelude.{◌≡◌, ◌≤◌, ℕ, ◌+◌, true, false, All, Contains, List, [], ◌∷◌, ◌++◌, length, take};
+ghost use Rattle.std.specs.Prelude.{drop};
 ghost use Rattle.fl_desk.specs.Replay.{state_after};
 ghost use Rattle.fl_order.specs.declared.order.Order.{Order};
 ghost use Rattle.fl_order.specs.declared.told.Told.{Told};
@@ -56,13 +57,14 @@ pub fn a_batch_goes_on_as_one()
     a_legal_history_goes_on_by_orders();
 }
 
-/// A second cut inside the same batch: the session that went on took some more orders of it, and refused none. Then it is
-/// as if the first one had taken these too, so the next goes on as `a_batch_goes_on_as_one` says.
+/// A second cut inside the same batch: the session that went on took some more orders of it, and refused none. Then it
+/// is as if the first one had taken these too, so the next goes on as `a_batch_goes_on_as_one` says.
 pub fn a_batch_can_be_cut_twice()
     ensures { (first : Session) (again : List Came) (batch : List ℕ) (had more : ℕ)
         → (part_of first batch had).handshake ≡ under_way → AllComeAgain (part_of first batch had) again
         → AreAsOne (part_of first batch had)
-        (with_orders (session_from (resumed (part_of first batch had)) again) (take more (drop had (forgets_in batch))) [])
+        (with_orders (session_from (resumed (part_of first batch had)) again)
+        (take more (drop had (forgets_in batch))) [])
         (part_of first batch (had + more)) again }
 {}
 
@@ -97,8 +99,8 @@ pub fn a_message_comes_again_whose_order_is_there()
         → IsOrderAgain told.unique message → ComesAgain s message }
     ensures asked { (s : Session) (unique : ℕ) (message : List ℕ) → HaveOrder s.lines unique
         → IsOrderAgain unique message → ComesAgain s message }
-    ensures batch { (s : Session) (unique : ℕ) (orders : List Order) (message : List ℕ) → HaveBatch s.lines unique orders
-        → IsBatchAgain unique (length orders) message → ComesAgain s message }
+    ensures batch { (s : Session) (unique : ℕ) (orders : List Order) (message : List ℕ)
+        → HaveBatch s.lines unique orders → IsBatchAgain unique (length orders) message → ComesAgain s message }
     ensures parked { (s : Session) (unique : ℕ) (message : List ℕ)
         → is_parked unique (state_after s.rules s.lines).view.parked ≡ true → IsOrderAgain unique message
         → ComesAgain s message }

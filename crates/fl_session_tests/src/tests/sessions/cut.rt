@@ -1,5 +1,5 @@
-//! Sessions that are cut off behind any line of their trace, and once more. All their messages come again, marked, and their
-//! lines and replies are those of the session that wasn't cut off.
+//! Sessions that are cut off behind any line of their trace, and once more. All their messages come again, marked, and
+//! their lines and replies are those of the session that wasn't cut off.
 
 use super::super::{are_bytes, count_is, fault_is};
 use super::batches::BATCHES;
@@ -52,7 +52,8 @@ fn is_behind_a_line(text: &[u8], cut: usize) -> bool {
     cut == 0 || text.get(cut.saturating_sub(1)) == Some(&b'\n')
 }
 
-// A session is cut off here. Another goes on, to which three messages come, and is cut off. To a third come all messages.
+// A session is cut off here. Another goes on, to which three messages come, and is cut off. To a third come all
+// messages.
 fn is_as_one(rt: &impl Abort, alloc: Global, case: &str, text: &[u8], cut: usize) {
     let replies = spelled(rt, alloc, "", case, "< ");
     let messages = spelled(rt, alloc, "", case, "> ");
