@@ -1,7 +1,14 @@
 pub mod AgainLemmas
+pub mod BatchLemmas
+pub mod KnownLemmas
+pub mod LaterLemmas
+pub mod MarkLemmas
 pub mod MeetLemmas
+pub mod NewLemmas
 pub mod OnceLemmas
+pub mod ParkedLemmas
 pub mod Prefixes
+pub mod RecallLemmas
 pub mod ReplyingLemmas
 pub mod RulesLemmas
 pub mod ServedLemmas

@@ -1,5 +1,7 @@
 pub mod Again
+pub mod AsOne
 pub mod Inside
+pub mod Known
 pub mod Once
 pub mod Recorded
 pub mod Served

@@ -1,17 +1,125 @@
 //! Laws of the definitions, in the words of their subject. Each is the contract of an empty function.
+//!
+//! The first five say what a session does that goes on behind the lines of one that was cut off. The others say how its
+//! client meets their conditions: it uses each unique for one message, and sends again, with a mark, each that it has
+//! no reply for and whose order or reply is among the last 65,536 lines, or whose request is parked, or that is new.
 
-ghost use Rattle.std.specs.Prelude.{◌≡◌, ◌++◌, List};
-ghost use Rattle.fl_session.specs.Once.{AllComeAgain, AreNew, resumed, under_way};
-ghost use Rattle.fl_session.specs.Session.{Came, session_from, session_of};
+ghost use Rattle.std.specs.Prelude.{◌≡◌, ◌≤◌, ℕ, ◌+◌, true, false, All, Contains, List, [], ◌∷◌, ◌++◌, length, take};
+ghost use Rattle.std.specs.Prelude.{drop};
+ghost use Rattle.fl_desk.specs.Replay.{state_after};
+ghost use Rattle.fl_order.specs.declared.order.Order.{Order};
+ghost use Rattle.fl_order.specs.declared.told.Told.{Told};
+ghost use Rattle.fl_session.specs.AsOne.{AllPlain, AreAsOne, IsCutInside, IsSentAgain, part_of, replies_again};
+ghost use Rattle.fl_session.specs.Known.{AreMarked, HaveBatch, HaveNothing, HaveOrder, HaveOwnUniques, HaveReply};
+ghost use Rattle.fl_session.specs.Known.{IsBatchAgain, IsOrderAgain, with_mark};
+ghost use Rattle.fl_session.specs.Once.{AllComeAgain, AreNew, ComesAgain, IsUnknown, SaysTheSame, resumed, under_way};
+ghost use Rattle.fl_session.specs.Session.{Came, Session, session_from, session_of, with_message, with_orders};
+ghost use Rattle.fl_transport.specs.Handshake.{incoming_by};
+ghost use Rattle.fl_transport.specs.Response.{bytes_of};
+ghost use Rattle.fl_transport.specs.declared.handshake.Incoming.TheVariants as incoming;
+ghost use Rattle.fl_transport.specs.declared.response.Response.{Response};
+ghost use Rattle.fl_waiting.specs.Waiting.{is_parked};
 ghost use Rattle.fl_waiting.specs.declared.rules.Rules.{Rules};
+ghost use Rattle.fl_wire.specs.Batch.{forgets_in};
+ghost use Rattle.fl_wire.specs.Says.{said};
+ghost use Rattle.fl_wire.specs.Spell.{spelling_of};
 
-/// A session was cut off. Of the messages that had been sent to it, its lines have the orders of `taken`, and lack those
-/// of `unread`. Another goes on behind these lines. Once its INIT is agreed, messages come to it again whose orders the
-/// first one had, and then those that it lacked, marked. Then its lines are those of one session that wasn't cut off: no
-/// order is taken twice, and none is left out.
+use fl_core::laws::settling_answers_the_oldest_first;
+use fl_desk::laws::{a_legal_history_goes_on_by_orders, own_reply_comes_first};
+
+/// A session was cut off. Of the messages that had been sent to it, its lines have the orders of `taken`, and lack
+/// those of `unread`. Another goes on behind these lines. Once its INIT is agreed, messages come to it again whose
+/// orders the first one had, and then those that it lacked, marked. Then its lines are those of one session that wasn't
+/// cut off: no order is taken twice, and none is left out. It sends what the lines have for the messages that came
+/// again, and then what that one session sends behind the replies of the first. If it is cut off too, the law is the
+/// same for the next.
 pub fn a_session_goes_on_as_one()
-    ensures { (rules : Rules) (taken again unread marked : List Came) → (session_of rules taken).handshake ≡ under_way
-        → AllComeAgain (session_of rules taken) again → AreNew (session_of rules taken) unread marked
-        → (session_from (resumed (session_of rules taken)) (again ++ marked)).lines
-        ≡ (session_of rules (taken ++ unread)).lines }
+    ensures { (rules : Rules) (taken again unread marked : List Came)
+        → IsSentAgain (session_of rules taken) again unread marked
+        → AreAsOne (session_of rules taken) (session_from (resumed (session_of rules taken)) (again ++ marked))
+        (session_of rules (taken ++ unread)) again }
+{}
+
+/// The same of a cut inside a batch: the lines have so many of its orders, and none of these was refused. The batch
+/// comes again, marked, behind the messages whose orders the lines have, and before those that they lack. As many
+/// orders as they have are left out, and the others are taken.
+pub fn a_batch_goes_on_as_one()
+    ensures { (rules : Rules) (taken again unread marked : List Came) (batch same : Came) (count : ℕ)
+        → (session_of rules taken).handshake ≡ under_way → IsCutInside (session_of rules taken) count batch same
+        → AllComeAgain (part_of (session_of rules taken) batch.message count) again
+        → AreNew (with_message (session_of rules taken) batch) unread marked
+        → AreAsOne (part_of (session_of rules taken) batch.message count)
+        (session_from (resumed (part_of (session_of rules taken) batch.message count)) (again ++ same ∷ marked))
+        (session_of rules (taken ++ batch ∷ unread)) again }
+{
+    settling_answers_the_oldest_first();
+    own_reply_comes_first();
+    a_legal_history_goes_on_by_orders();
+}
+
+/// A second cut inside the same batch: the session that went on took some more orders of it, and refused none. Then it
+/// is as if the first one had taken these too, so the next goes on as `a_batch_goes_on_as_one` says.
+pub fn a_batch_can_be_cut_twice()
+    ensures { (first : Session) (again : List Came) (batch : List ℕ) (had more : ℕ)
+        → (part_of first batch had).handshake ≡ under_way → AllComeAgain (part_of first batch had) again
+        → AreAsOne (part_of first batch had)
+        (with_orders (session_from (resumed (part_of first batch had)) again)
+        (take more (drop had (forgets_in batch))) [])
+        (part_of first batch (had + more)) again }
+{}
+
+/// The client got some of the replies of a session that was cut off, and those of the session that went on. If each
+/// reply of the first is one that it got, or is sent again, then it has each reply of the one session, once or again.
+pub fn its_client_has_each_reply()
+    ensures { (first other one : Session) (again : List Came) (got : List (List ℕ)) → AreAsOne first other one again
+        → All (Contains (got ++ replies_again first again)) first.replies
+        → All (Contains (got ++ other.replies)) one.replies }
+{}
+
+/// New messages that come later to both, without a mark, are taken and answered alike.
+pub fn later_messages_are_as_in_one_session()
+    ensures { (first other one : Session) (again later : List Came) → AreAsOne first other one again → AllPlain later
+        → AreAsOne first (session_from other later) (session_from one later) again }
+{}
+
+/// The reply to an order, if it is among the last 65,536 lines, is sent again to its message. So is what the session
+/// itself answered to a message.
+pub fn a_reply_is_sent_again()
+    ensures stored { (s : Session) (again : List Came) (c : Came) (told : Told) → HaveReply s.lines told
+        → Contains again c → IsOrderAgain told.unique c.message → Contains (replies_again s again) (spelling_of told) }
+    ensures own { (s : Session) (again : List Came) (c same : Came) (response : Response) (reply : List ℕ)
+        → SaysTheSame c.message same.message → incoming_by c.message (said c.message) ≡ incoming.Response response
+        → Contains (bytes_of response) reply → Contains again same → Contains (replies_again s again) reply }
+{}
+
+/// A session has the order of a message if its reply is among the last 65,536 lines, or the order itself without a
+/// reply, or if its request is parked. It has those of a batch if they all are among these lines.
+pub fn a_message_comes_again_whose_order_is_there()
+    ensures replied { (s : Session) (told : Told) (message : List ℕ) → HaveReply s.lines told
+        → IsOrderAgain told.unique message → ComesAgain s message }
+    ensures asked { (s : Session) (unique : ℕ) (message : List ℕ) → HaveOrder s.lines unique
+        → IsOrderAgain unique message → ComesAgain s message }
+    ensures batch { (s : Session) (unique : ℕ) (orders : List Order) (message : List ℕ)
+        → HaveBatch s.lines unique orders → IsBatchAgain unique (length orders) message → ComesAgain s message }
+    ensures parked { (s : Session) (unique : ℕ) (message : List ℕ)
+        → is_parked unique (state_after s.rules s.lines).view.parked ≡ true → IsOrderAgain unique message
+        → ComesAgain s message }
+{}
+
+/// A unique that no line has is new to a session with these lines.
+pub fn a_unique_that_no_line_has_is_unknown()
+    ensures { (s : Session) (unique : ℕ) → HaveNothing unique s.lines → IsUnknown s unique }
+{}
+
+/// Messages that a session lacks are new to it, one after another, if each has a unique of its own that no line has.
+pub fn messages_with_uniques_of_their_own_are_new()
+    ensures { (s : Session) (unread marked : List Came) → s.resends ≡ false → HaveOwnUniques s.lines unread
+        → AreMarked unread marked → AreNew s unread marked }
+{
+    settling_answers_the_oldest_first();
+}
+
+/// A message with its mark says what it says without it.
+pub fn a_mark_says_nothing_else()
+    ensures { (message : List ℕ) → 16 ≤ length message → SaysTheSame message (with_mark message) }
 {}

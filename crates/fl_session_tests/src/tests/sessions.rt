@@ -4,6 +4,7 @@ mod again;
 mod around;
 mod batches;
 mod collected;
+mod cut;
 mod fair;
 mod faults;
 mod journals;

@@ -1,0 +1,232 @@
+-- What a client gets that uses each unique for one message.
+use Rattle.std.proofs.Common.{◌≡◌, ℕ, zero, suc, ◌-◌, ◌≤◌, Bool, true, false, ◌||◌, ◌+◌, List, [], ◌∷◌, ◌++◌, length, drop, Some}
+use Rattle.std.proofs.Common.{refl, sym, ap, subst, ◌∙◌, arith, length-append, ⊎_elim}
+use Rattle.std.specs.Prelude.{All, Contains, flat_map, fold, if◌then◌else◌, nat_le, ◌≢◌, slice_index_or}
+use Rattle.std.proofs.lemmas.Bool.{eq-eqb, le-leb, ne_eqb}
+use Rattle.std.proofs.lemmas.Grind.{fold-append}
+use Rattle.std.proofs.lemmas.List.{drop-append-le, length-map}
+use Rattle.std.proofs.lemmas.List.Elements.{All-append, All-contains_itself, All-same, Contains-append_cases, Contains-append_left, Contains-append_right}
+use Rattle.fl_desk.specs.Replay.{state_after}
+use Rattle.fl_history.specs.Recent.{recalled, recent, with_ask, with_line}
+use Rattle.fl_history.specs.declared.history.Line.{Line}
+use Rattle.fl_history.specs.declared.history.Line.TheVariants as line
+use Rattle.fl_history.specs.declared.recent.Recalled.{Recalled}
+use Rattle.fl_history.specs.declared.recent.Recalled.TheVariants as recall
+use Rattle.fl_order.specs.declared.order.Order.{Order}
+use Rattle.fl_order.specs.declared.told.Told.{Told}
+use Rattle.fl_session.proofs.ParkedLemmas.{counted_free, others_counted, replied_free}
+use Rattle.fl_session.proofs.RecallLemmas.{asks, asks_counted, behind_unsaid}
+use Rattle.fl_session.specs.Again.{incoming_under, response_under, unmarked}
+use Rattle.fl_session.specs.AsOne.{AreAsOne, replies_again, reply_again, reply_in, reply_unmarked}
+use Rattle.fl_session.specs.Known.{HaveBatch, HaveNothing, HaveOrder, HaveReply, IsBatchAgain, IsOrderAgain, unique_in}
+use Rattle.fl_session.specs.Once.{ComesAgain, IsUnknown, SaysTheSame, has_all, is_had, orders_in}
+use Rattle.fl_session.specs.Session.{Came, Session}
+use Rattle.fl_transport.specs.Handshake.{incoming_by, says_destroy}
+use Rattle.fl_transport.specs.Response.{bytes_of}
+use Rattle.fl_transport.specs.declared.handshake.Incoming.{Incoming}
+use Rattle.fl_transport.specs.declared.handshake.Incoming.TheVariants as incoming
+use Rattle.fl_transport.specs.declared.response.Response.{Response}
+use Rattle.fl_waiting.specs.Waiting.{is_parked}
+use Rattle.fl_wire.specs.Batch.{forgets_in}
+use Rattle.fl_wire.specs.Layout.{unique_of}
+use Rattle.fl_wire.specs.Says.{said}
+use Rattle.fl_wire.specs.Spell.{spelling_of}
+
+-- ---- each reply
+
+All-widened : {X : Type 0} (P Q : X → Type 0) (xs : List X) → ((x : X) → P x → Q x) → All P xs → All Q xs
+All-widened P Q xs widen all k d lt = widen (slice_index_or xs k d) (all k d lt)
+
+pub has_each : (first other one : Session) (again : List Came) (got : List (List ℕ)) → AreAsOne first other one again
+    → All (Contains (got ++ replies_again first again)) first.replies → All (Contains (got ++ other.replies)) one.replies
+has_each first other one again got two all =
+    let sent : List (List ℕ) = replies_again first again in
+    let has : List ℕ → Type 0 = Contains (got ++ other.replies) in
+    let had : (x : List ℕ) → Contains (got ++ sent) x → has x = λ x in_it.
+    ⊎_elim (λ mine. Contains-append_left got other.replies x mine)
+    (λ theirs. Contains-append_right got other.replies x
+    (subst (λ l. Contains l x) (sym two.of_other) (Contains-append_left sent two.rest x theirs)))
+    (Contains-append_cases got sent x in_it) in
+    let more : (x : List ℕ) → Contains two.rest x → has x = λ x in_it.
+    Contains-append_right got other.replies x
+    (subst (λ l. Contains l x) (sym two.of_other) (Contains-append_right sent two.rest x in_it)) in
+    All-same has one.replies (first.replies ++ two.rest) two.of_one
+    (All-append has first.replies two.rest
+    (All-widened (Contains (got ++ sent)) has first.replies had all)
+    (All-widened (Contains two.rest) has two.rest more (All-contains_itself two.rest)))
+
+-- ---- a unique that no line has
+
+other_said : (unique : ℕ) (before : Recalled) (l : Line) → unique_in l ≢ unique → with_line unique before l ≡ before
+other_said unique before (line.Asked worker order) other =
+    ap (λ is. if is then with_ask before else before) (ne_eqb order.unique unique other)
+other_said unique before (line.Told told) other =
+    ap (λ is. if is then recall.Told told else before) (ne_eqb told.unique unique other)
+
+others_said : (unique : ℕ) (before : Recalled) (lines : List Line) → HaveNothing unique lines
+    → fold (with_line unique) before lines ≡ before
+others_said unique before [] none = refl
+others_said unique before (l ∷ lines) none =
+    ap (λ b. fold (with_line unique) b lines) (other_said unique before l none.0) ∙ others_said unique before lines none.1
+
+pub nothing_unknown : (s : Session) (unique : ℕ) → HaveNothing unique s.lines → IsUnknown s unique
+nothing_unknown s unique none = record {
+  free = counted_free unique s.rules s.lines (others_counted unique 0 s.lines none);
+  unsaid = behind_unsaid unique (length s.lines - 65536) s.lines (others_said unique (recall.Asked 0) s.lines none);
+}
+
+-- ---- a reply in the last lines
+
+told_said : (told : Told) (before : Recalled) → with_line told.unique before (line.Told told) ≡ recall.Told told
+told_said told before = ap (λ is. if is then recall.Told told else before) (eq-eqb told.unique told.unique refl)
+
+reply_recalled : (lines : List Line) (told : Told) → HaveReply lines told → recalled told.unique (recent lines) ≡ recall.Told told
+reply_recalled lines told h =
+    let u : ℕ = told.unique in
+    let front : List Line = h.before ++ line.Asked h.worker h.order ∷ h.between in
+    let back : List Line = line.Told told ∷ h.after in
+    let n : ℕ = length (front ++ back) - 65536 in
+    let long = length-append front back in
+    let near = h.near in
+    let within : n ≤ length front = omega (arith, long, near) in
+    ap (λ l. recalled u (recent l)) h.stand
+    ∙ ap (recalled u) (drop-append-le n front back within)
+    ∙ fold-append (with_line u) (recall.Asked 0) (drop n front) back
+    ∙ ap (λ b. fold (with_line u) b h.after) (told_said told (fold (with_line u) (recall.Asked 0) (drop n front)))
+    ∙ others_said u (recall.Told told) h.after h.none_after
+
+asked_said : (unique worker : ℕ) (order : Order) → order.unique ≡ unique
+    → with_line unique (recall.Asked 0) (line.Asked worker order) ≡ recall.Asked 1
+asked_said unique worker order named =
+    ap (λ is. if is then recall.Asked (0 + 1) else recall.Asked 0) (eq-eqb order.unique unique named)
+
+order_recalled : (lines : List Line) (unique : ℕ) → HaveOrder lines unique → recalled unique (recent lines) ≡ recall.Asked 1
+order_recalled lines u h =
+    let back : List Line = line.Asked h.worker h.order ∷ h.after in
+    let n : ℕ = length (h.before ++ back) - 65536 in
+    let long = length-append h.before back in
+    let near = h.near in
+    let within : n ≤ length h.before = omega (arith, long, near) in
+    ap (λ l. recalled u (recent l)) h.stand
+    ∙ ap (recalled u) (drop-append-le n h.before back within)
+    ∙ fold-append (with_line u) (recall.Asked 0) (drop n h.before) back
+    ∙ ap (λ b. fold (with_line u) b back) (behind_unsaid u n h.before (others_said u (recall.Asked 0) h.before h.none_before))
+    ∙ ap (λ b. fold (with_line u) b h.after) (asked_said u h.worker h.order h.named)
+    ∙ others_said u (recall.Asked 1) h.after h.none_after
+
+batch_recalled : (lines : List Line) (unique : ℕ) (orders : List Order) → HaveBatch lines unique orders
+    → recalled unique (recent lines) ≡ recall.Asked (0 + length orders)
+batch_recalled lines u orders h =
+    let back : List Line = asks orders ++ h.after in
+    let n : ℕ = length (h.before ++ back) - 65536 in
+    let long = length-append h.before back in
+    let behind : length back ≡ length orders + length h.after =
+    length-append (asks orders) h.after ∙ ap (λ k. k + length h.after) (length-map orders (λ order. line.Asked 0 order)) in
+    let near = h.near in
+    let within : n ≤ length h.before = omega (arith, long, behind, near) in
+    ap (λ l. recalled u (recent l)) h.stand
+    ∙ ap (recalled u) (drop-append-le n h.before back within)
+    ∙ fold-append (with_line u) (recall.Asked 0) (drop n h.before) back
+    ∙ ap (λ b. fold (with_line u) b back) (behind_unsaid u n h.before (others_said u (recall.Asked 0) h.before h.none_before))
+    ∙ fold-append (with_line u) (recall.Asked 0) (asks orders) h.after
+    ∙ ap (λ b. fold (with_line u) b h.after) (asks_counted u 0 orders h.named)
+    ∙ others_said u (recall.Asked (0 + length orders)) h.after h.none_after
+
+-- ---- a message whose order is there comes again
+
+or_true : (a : Bool) → (a || true) ≡ true
+or_true true = refl
+or_true false = refl
+
+comes_by : (s : Session) (unique : ℕ) (message : List ℕ) → IsOrderAgain unique message → is_had s unique 1 ≡ true
+    → ComesAgain s message
+comes_by s unique message order had = record {
+  unique = unique;
+  marked = order.marked;
+  stays = ap says_destroy order.says;
+  had = ap (λ says. is_had s unique (length (orders_in (incoming_by message says)))) order.says ∙ had;
+}
+
+pub replied_comes : (s : Session) (told : Told) (message : List ℕ) → HaveReply s.lines told → IsOrderAgain told.unique message
+    → ComesAgain s message
+replied_comes s told message h order =
+    let waits : Bool = is_parked told.unique (state_after s.rules s.lines).view.parked in
+    comes_by s told.unique message order
+    (ap (λ r. waits || has_all r 1) (reply_recalled s.lines told h) ∙ or_true waits)
+
+pub asked_comes : (s : Session) (unique : ℕ) (message : List ℕ) → HaveOrder s.lines unique → IsOrderAgain unique message
+    → ComesAgain s message
+asked_comes s unique message h order =
+    let waits : Bool = is_parked unique (state_after s.rules s.lines).view.parked in
+    comes_by s unique message order
+    (ap (λ r. waits || has_all r 1) (order_recalled s.lines unique h) ∙ or_true waits)
+
+pub parked_comes : (s : Session) (unique : ℕ) (message : List ℕ)
+    → is_parked unique (state_after s.rules s.lines).view.parked ≡ true → IsOrderAgain unique message → ComesAgain s message
+parked_comes s unique message waits order =
+    comes_by s unique message order (ap (λ b. b || has_all (recalled unique (recent s.lines)) 1) waits)
+
+pub batch_comes : (s : Session) (unique : ℕ) (orders : List Order) (message : List ℕ) → HaveBatch s.lines unique orders
+    → IsBatchAgain unique (length orders) message → ComesAgain s message
+batch_comes s unique orders message h batch =
+    let waits : Bool = is_parked unique (state_after s.rules s.lines).view.parked in
+    let counted = batch.counted in
+    let all : nat_le (length (forgets_in message)) (0 + length orders) ≡ true =
+    le-leb (length (forgets_in message)) (0 + length orders) (omega (arith, counted)) in
+    record {
+      unique = unique;
+      marked = batch.marked;
+      stays = ap says_destroy batch.says;
+      had = ap (λ says. is_had s unique (length (orders_in (incoming_by message says)))) batch.says
+          ∙ ap (λ r. waits || has_all r (length (forgets_in message))) (batch_recalled s.lines unique orders h)
+          ∙ ap (λ b. waits || b) all ∙ or_true waits;
+    }
+
+-- ---- what is sent again
+
+had_reply : (waits : Bool) (found : Recalled) (told : Told) → waits ≡ false → found ≡ recall.Told told
+    → (if waits then [] else reply_in found) ≡ spelling_of told ∷ []
+had_reply waits found told free some = rw (free, some) refl
+
+flat_contains : {X A : Type 0} (f : X → List A) (xs : List X) (x : X) (a : A) → Contains xs x → Contains (f x) a
+    → Contains (flat_map f xs) a
+flat_contains f [] x a in_xs in_f = absurd (let lt = in_xs.1 in omega (arith, lt))
+flat_contains f (y ∷ xs) x a in_xs in_f =
+    ⊎_elim (λ head. Contains-append_left (f y) (flat_map f xs) a
+    (subst (λ z. Contains (f z) a) (head_is head) in_f))
+    (λ tail. Contains-append_right (f y) (flat_map f xs) a (flat_contains f xs x a tail in_f))
+    (Contains-append_cases (y ∷ []) xs x in_xs)
+  where
+    head_is : Contains (y ∷ []) x → x ≡ y
+    head_is (zero, lt, e) = sym e
+    head_is (suc k, lt, e) = absurd (omega (arith, lt))
+
+pub reply_comes_again : (s : Session) (again : List Came) (c : Came) (told : Told) → HaveReply s.lines told
+    → Contains again c → IsOrderAgain told.unique c.message → Contains (replies_again s again) (spelling_of told)
+reply_comes_again s again c told h came order =
+    let u : ℕ = told.unique in
+    let f = λ (c : Came). reply_unmarked s (unmarked true (unique_of c.message)) (incoming_by c.message (said c.message)) in
+    let one : f c ≡ spelling_of told ∷ [] =
+    ap (λ m. reply_unmarked s m (incoming_by c.message (said c.message))) order.marked
+    ∙ ap (λ says. reply_unmarked s (Some u) (incoming_by c.message says)) order.says
+    ∙ had_reply (is_parked u (state_after s.rules s.lines).view.parked) (recalled u (recent s.lines)) told
+    (replied_free s.rules s.lines told h) (reply_recalled s.lines told h) in
+    flat_contains f again c (spelling_of told) came
+    (subst (λ l. Contains l (spelling_of told)) (sym one) (0, omega arith, refl))
+
+under_own : (s : Session) (unique : ℕ) (it : Incoming) (response : Response)
+    → incoming_under unique it ≡ incoming.Response response → reply_again s unique it ≡ bytes_of response
+under_own s unique (incoming.Order order) response e = absurd (cc e)
+under_own s unique (incoming.Batch orders) response e = absurd (cc e)
+under_own s unique (incoming.Response r) response e =
+    let is : response_under unique r ≡ response = cc e in ap bytes_of is
+
+pub answer_comes_again : (s : Session) (again : List Came) (c m : Came) (response : Response) (reply : List ℕ)
+    → SaysTheSame c.message m.message → incoming_by c.message (said c.message) ≡ incoming.Response response
+    → Contains (bytes_of response) reply → Contains again m → Contains (replies_again s again) reply
+answer_comes_again s again c m response reply same own in_it came =
+    let f = λ (c : Came). reply_unmarked s (unmarked true (unique_of c.message)) (incoming_by c.message (said c.message)) in
+    let one : f m ≡ bytes_of response =
+    ap (λ mark. reply_unmarked s mark (incoming_by m.message (said m.message))) same.mark
+    ∙ under_own s (unique_of c.message) (incoming_by m.message (said m.message)) response (same.says ∙ own) in
+    flat_contains f again m reply came (subst (λ l. Contains l reply) (sym one) in_it)

@@ -1,0 +1,91 @@
+-- What lines have of a unique that its client uses for one message.
+use Rattle.std.specs.Prelude.{◌≡◌, ◌≢◌, ℕ, ◌+◌, ◌<◌, ◌≤◌, true, List, [], ◌∷◌, ◌++◌, length, map, set, slice_index, Some, Ok, Err, ⊤}
+use Rattle.std.specs.List.{AllByRecursion}
+use Rattle.fl_history.specs.declared.history.Line.{Line}
+use Rattle.fl_history.specs.declared.history.Line.TheVariants as line
+use Rattle.fl_order.specs.declared.order.Order.{Order}
+use Rattle.fl_order.specs.declared.refusal.Refusal.TheVariants.{Batch}
+use Rattle.fl_order.specs.declared.told.Told.{Told}
+use Rattle.fl_session.specs.Again.{unmarked}
+use Rattle.fl_session.specs.Once.{SaysTheSame}
+use Rattle.fl_session.specs.Session.{Came}
+use Rattle.fl_wire.specs.Batch.{forgets_in}
+use Rattle.fl_wire.specs.Layout.{unique_of}
+use Rattle.fl_wire.specs.Says.{said}
+
+-- the unique of a line
+abbrev pub unique_in : Line → ℕ
+unique_in (line.Asked worker order) = order.unique
+unique_in (line.Told told) = told.unique
+
+-- no line has this unique
+abbrev pub HaveNothing : ℕ → List Line → Type 0
+HaveNothing unique lines = AllByRecursion (λ (l : Line). unique_in l ≢ unique) lines
+
+-- Of this unique lines have one order, and no reply. Fewer than 65,536 lines stand behind the order.
+pub record HaveOrder (lines : List Line) (unique : ℕ) : Type 0 where
+  pub worker : ℕ
+  pub order : Order
+  pub before : List Line
+  pub after : List Line
+  pub named : order.unique ≡ unique
+  pub stand : lines ≡ before ++ line.Asked worker order ∷ after
+  pub none_before : HaveNothing unique before
+  pub none_after : HaveNothing unique after
+  pub near : length after < 65536
+
+-- Of this unique lines have these orders of one batch, side by side, and no reply. With the lines behind them these are
+-- at most 65,536.
+pub record HaveBatch (lines : List Line) (unique : ℕ) (orders : List Order) : Type 0 where
+  pub before : List Line
+  pub after : List Line
+  pub named : AllByRecursion (λ (order : Order). order.unique ≡ unique) orders
+  pub stand : lines ≡ before ++ (map (λ order. line.Asked 0 order) orders ++ after)
+  pub none_before : HaveNothing unique before
+  pub none_after : HaveNothing unique after
+  pub near : length orders + length after ≤ 65536
+
+-- Of its unique, lines have one order, and behind it this reply. Fewer than 65,536 lines stand behind the reply.
+pub record HaveReply (lines : List Line) (told : Told) : Type 0 where
+  pub worker : ℕ
+  pub order : Order
+  pub before : List Line
+  pub between : List Line
+  pub after : List Line
+  pub named : order.unique ≡ told.unique
+  pub stand : lines ≡ (before ++ line.Asked worker order ∷ between) ++ line.Told told ∷ after
+  pub none_before : HaveNothing told.unique before
+  pub none_between : HaveNothing told.unique between
+  pub none_after : HaveNothing told.unique after
+  pub near : length after < 65536
+
+-- Each of these messages has a unique of its own: no line has it, and no other of the messages.
+abbrev pub HaveOwnUniques : List Line → List Came → Type 0
+HaveOwnUniques lines [] = ⊤
+HaveOwnUniques lines (c ∷ came) =
+    HaveNothing (unique_of c.message) lines
+    × AllByRecursion (λ (other : Came). unique_of other.message ≢ unique_of c.message) came × HaveOwnUniques lines came
+
+-- The message with its mark: bit 63 of its unique, whose bytes are the eighth to the fifteenth, counted from 0.
+abbrev pub with_mark : List ℕ → List ℕ
+with_mark message = set message 15 (slice_index message 15 + 128)
+
+-- The second messages are the first ones with a mark, and their orders are refused or not alike.
+abbrev pub AreMarked : List Came → List Came → Type 0
+AreMarked [] [] = ⊤
+AreMarked [] (m ∷ marked) = ⊥
+AreMarked (c ∷ came) [] = ⊥
+AreMarked (c ∷ came) (m ∷ marked) =
+    SaysTheSame c.message m.message × (m.refused ≡ c.refused) × AreMarked came marked
+
+-- a message is an order that is sent again, marked, and has this unique without its mark
+pub record IsOrderAgain (unique : ℕ) (message : List ℕ) : Type 0 where
+  pub order : Order
+  pub marked : unmarked true (unique_of message) ≡ Some unique
+  pub says : said message ≡ Ok order
+
+-- a message is a batch of so many orders that is sent again, marked, and has this unique without its mark
+pub record IsBatchAgain (unique count : ℕ) (message : List ℕ) : Type 0 where
+  pub marked : unmarked true (unique_of message) ≡ Some unique
+  pub says : said message ≡ Err Batch
+  pub counted : length (forgets_in message) ≡ count
