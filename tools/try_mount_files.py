@@ -271,7 +271,7 @@ def try_empty_folders_as_locks(mount):
 
 
 def try_mkdir_leaves_no_open_file(mount):
-    for at in range(1500):
+    for _ in as_often(1500):
         os.mkdir(f"{mount.folder}/again.d")
         os.rmdir(f"{mount.folder}/again.d")
     os.mknod(f"{mount.folder}/made", 0o100600)
@@ -280,13 +280,13 @@ def try_mkdir_leaves_no_open_file(mount):
 
 def try_twenty_count_under_mkdir(mount):
     counter = f"{WORK}/by_mkdir{mount.running.pid}"
-    shell(mount, f"echo 0 > {counter}; for one in $(seq 20); do (for each in 1 2 3; do until mkdir held.d 2> /dev/null; do sleep 0.005; done; "
+    shell(mount, f"echo 0 > {counter}; for one in $(seq 20); do (for each in 1 2 3; do until mkdir held.d 2> /dev/null; do sleep 0.05; done; "
                  f"read n < {counter}; echo $((n + 1)) > {counter}; rmdir held.d; done) & done; wait; cat {counter}", "60")
 
 
 def try_twenty_count_under_noclobber(mount):
     counter = f"{WORK}/by_noclobber{mount.running.pid}"
-    shell(mount, f"echo 0 > {counter}; for one in $(seq 20); do (set -C; for each in 1 2 3; do until true 2> /dev/null > held; do sleep 0.005; done; "
+    shell(mount, f"echo 0 > {counter}; for one in $(seq 20); do (set -C; for each in 1 2 3; do until true 2> /dev/null > held; do sleep 0.05; done; "
                  f"read n < {counter}; echo $((n + 1)) >| {counter}; rm held; done) & done; wait; cat {counter}", "60")
 
 
