@@ -270,6 +270,8 @@ static bool agree_again(void)
         return true;
     memcpy(&head, message, sizeof head);
     atomic_store(&session.init, head.unique);
+    // Its reply, and those to what is sent again, need not be new lines.
+    atomic_store(&it.lines, 0);
     bool well = send_all(message, size);
     while (well && atomic_load(&session.init) && !is_cut_off() && sleep_until_woken(false))
         ;

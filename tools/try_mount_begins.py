@@ -85,7 +85,7 @@ def try_help_and_version():
     ran = subprocess.run([PROGRAM, "--help"], capture_output=True, text=True, timeout=PATIENCE)
     same((ran.returncode, ran.stdout.startswith("use: lockd_mount [OPTIONS] [--] FOLDER\n"), ran.stderr), (0, True, ""))
     ran = subprocess.run([PROGRAM, "--version"], capture_output=True, text=True, timeout=PATIENCE)
-    same((ran.returncode, bool(re.fullmatch(r"lockd_mount \d+\.\d+\.\d+\n", ran.stdout))), (0, True))
+    same((ran.returncode, bool(re.fullmatch(r"lockd_mount \d+\.\d+\.\d+( \([0-9a-f]{12}\))?\n", ran.stdout))), (0, True))
 
 
 def try_completions_and_help_name_the_same_options():
