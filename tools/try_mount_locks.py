@@ -55,7 +55,7 @@ def try_twenty_count_under_fcntl(mount):
         pid = os.fork()
         if not pid:
             signal.signal(signal.SIGALRM, signal.SIG_DFL)
-            signal.alarm(9 * PATIENCE)
+            signal.alarm(19 * PATIENCE)
             fd = os.open(f"{mount.folder}/by_fcntl", os.O_RDWR | os.O_CREAT)
             for _ in range(50):
                 record(fd, WRITE, 5, 1, True)
