@@ -24,7 +24,7 @@ def try_shell_shared_locks(mount):
 
 
 def try_shell_flock_with_a_time(mount):
-    shell(mount, "flock timed sh -c 'flock -w 0.3 timed echo in || echo late'; (flock timed sleep 0.5) & sleep 0.1; "
+    shell(mount, "flock timed sh -c 'flock -w 1 timed echo in || echo late'; (flock timed sleep 0.5) & sleep 0.1; "
                  f"flock -w {PATIENCE} timed echo in; wait", "late in")
 
 
