@@ -196,7 +196,14 @@ def try_a_full_trace_may_refuse_locks():
     subprocess.run(["mount", "-t", "tmpfs", "-o", "size=4k", "none", disk], check=True, timeout=PATIENCE)
     mount = Mount("--trace", f"{disk}/trace", "--trace-full", "refuse")
     fd = os.open(f"{mount.folder}/job", os.O_RDWR | os.O_CREAT)
-    until(lambda: "ENOMEM" in [outcome(fcntl.flock, fd, ALONE) for _ in range(100)], 15 * PATIENCE)
+
+    def is_full():
+        """The longest lines fill it soonest."""
+        for _ in range(100):
+            outcome(os.stat, f"{mount.folder}/{'n' * 255}")
+        return outcome(fcntl.flock, fd, ALONE) == "ENOMEM"
+
+    until(is_full, 15 * PATIENCE)
     same(outcome(fcntl.flock, fd, NOT_HELD), "ENOMEM")
     subprocess.run(["mount", "-i", "-o", "remount,size=9m", disk], check=True, timeout=PATIENCE)
     until(lambda: outcome(fcntl.flock, fd, NOT_HELD) is None)
