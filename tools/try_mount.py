@@ -26,7 +26,7 @@ def close_files():
 
 def passes(name, function, *words):
     """Whether it goes well. Its processes are killed at the end, and its files are closed."""
-    signal.alarm(getattr(function, "seconds", 10 * PATIENCE))
+    signal.alarm(getattr(function, "seconds", 20 * PATIENCE))
     begun = time.monotonic()
     try:
         function(*words)

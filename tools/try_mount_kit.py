@@ -277,7 +277,7 @@ def same(found, wanted):
 def shell(mount, script, wanted, status=0):
     """Has `sh` run the script in the folder, and compares what it prints."""
     ran = subprocess.run(["sh", "-c", script], cwd=mount.folder, stdout=subprocess.PIPE, stderr=subprocess.STDOUT, text=True,
-                         timeout=9 * PATIENCE, stdin=subprocess.DEVNULL)
+                         timeout=19 * PATIENCE, stdin=subprocess.DEVNULL)
     same((ran.stdout.split(), ran.returncode), (wanted.split(), status))
     has_closed_files(mount.folder)
 

@@ -24,7 +24,7 @@ def try_shell_shared_locks(mount):
 
 
 def try_shell_flock_with_a_time(mount):
-    shell(mount, "flock timed sh -c 'flock -w 0.3 timed echo in || echo late'; (flock timed sleep 0.5) & sleep 0.1; "
+    shell(mount, "flock timed sh -c 'flock -w 1 timed echo in || echo late'; (flock timed sleep 0.5) & sleep 0.1; "
                  f"flock -w {PATIENCE} timed echo in; wait", "late in")
 
 
@@ -55,7 +55,7 @@ def try_twenty_count_under_fcntl(mount):
         pid = os.fork()
         if not pid:
             signal.signal(signal.SIGALRM, signal.SIG_DFL)
-            signal.alarm(9 * PATIENCE)
+            signal.alarm(19 * PATIENCE)
             fd = os.open(f"{mount.folder}/by_fcntl", os.O_RDWR | os.O_CREAT)
             for _ in range(50):
                 record(fd, WRITE, 5, 1, True)
