@@ -281,8 +281,9 @@ static bool unmount_by(int signal)
     notify("STOPPING=1\nSTATUS=waiting for open files");
     for (;;) {
         bool gone = place_unmount(&it.place, false);
-        // The kernel tells the carrier in a moment, unless the mount is elsewhere too.
-        for (int i = 0; gone && i < 4 && !is_over(); i++)
+        // The kernel tells the carrier in a moment, unless the mount is elsewhere too. On a busy machine the carrier
+        // hears of a file that was just closed only then.
+        for (int i = 0; gone && i < 40 && !is_over(); i++)
             sleep_for(STEP);
         if (is_over() && (gone || !goes_on()))
             return gone;
