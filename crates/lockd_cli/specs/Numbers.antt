@@ -1,5 +1,5 @@
 -- The number of workers that a command line may ask for.
-use Rattle.std.specs.Prelude.{◌≤◌, ⊤, ⊥}
+use Rattle.std.specs.Prelude.{◌≤◌, ⊤}
 use Rattle.lockd_cli.specs.declared.options.Asked.{Asked}
 use Rattle.lockd_cli.specs.declared.options.Asked.TheVariants.{Serve}
 use Rattle.lockd_cli.specs.declared.options.Trace.{Trace}
