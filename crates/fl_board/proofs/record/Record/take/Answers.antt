@@ -24,8 +24,8 @@ alone_of : (order : Order) (found : Option (Option (Result Answer Errno))) (told
 alone_of order None told tolds alone same = tt
 alone_of order (Some reply) told tolds alone same = sym same ∙ (alone reply).0 refl
 
-pub add-2-requires-clause-alone : goal.add-2-requires-clause-alone
-add-2-requires-clause-alone g c =
+pub add-requires-2-clause-alone : goal.add-requires-2-clause-alone
+add-requires-2-clause-alone g c =
     let ours = g.L.BoardName.rules in
     let was = c.self.inside.all in
     let order = c.args.order.now in
