@@ -118,8 +118,9 @@ def main():
         outcomes += beside_each_other({name: every[name] for name in chosen(alone)})
         if chosen(together):
             outcomes += [it == 0 for it in [as_user("try_mount.py", *sys.argv[1:])] if it is not None]
+    print(f"{sum(outcomes)} passed, {len(outcomes) - sum(outcomes)} failed", flush=True)
+    # It goes into what a try that failed has left mounted.
     shutil.rmtree(WORK, ignore_errors=True)
-    print(f"{sum(outcomes)} passed, {len(outcomes) - sum(outcomes)} failed")
     return 0 if outcomes and all(outcomes) else 1
 
 

@@ -84,6 +84,9 @@ def try_20000_files_of_16_processes():
     same((os.listdir(mount.folder), mount.end()), ([], (0, "legal")))
 
 
+try_20000_files_of_16_processes.seconds = 40 * PATIENCE
+
+
 def try_1024_open_files(mount):
     held = []
     while True:

@@ -134,11 +134,13 @@ def try_moving_and_zooming(browser, written, _):
     for kind, by in ("mousePressed", 0), ("mouseMoved", 100), ("mouseReleased", 100):
         browser.point(x + by, y, kind, button="left", buttons=1, clickCount=1)
     assert says(browser) != before, before
+    took = []
     # Other programs may have the processors for a while.
-    took = min(browser.tell("(() => { const begun = performance.now(); document.getElementById('whole').click();"
-                            " return new Promise(done => requestAnimationFrame(() => requestAnimationFrame(() => done(performance.now() - begun)))); })()")
-               for _ in range(3))
-    assert took < 5000, took
+    for _ in range(3):
+        browser.click("#nearer")
+        took.append(browser.tell("(() => { const begun = performance.now(); document.getElementById('whole').click(); return new Promise("
+                                 "done => requestAnimationFrame(() => requestAnimationFrame(() => done(performance.now() - begun)))); })()"))
+    assert min(took) < 5000, took
     browser.tell("document.getElementById('lanes').scrollTop = 3000")
     browser.settle()
     assert browser.tell("document.getElementById('chart').getBoundingClientRect().top >= document.getElementById('lanes').getBoundingClientRect().top")
