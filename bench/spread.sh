@@ -9,7 +9,7 @@
 #   two of a job  the same, but the two are of one of 8 jobs (`job3.data`, `job3.index`, ..).
 # `lockd check` judges each. The last four want root, /dev/fuse and a C compiler, and are left out where these aren't there. It takes a minute.
 #
-#     bench/spread.sh [FOLDER]      (FOLDER gets the traces, and stays; those that it has aren't made again)
+#     bench/spread.sh [FOLDER]      (FOLDER gets the traces, and stays; but for the row of circles, those that it has aren't made again)
 set -eu
 . "$(dirname "$0")/../tools/built_lockd.sh"
 program=$(realpath "$program")
