@@ -51,12 +51,10 @@ impl Door {
     // Waits until lines couldn't be stored so often, at most ten seconds.
     fn wait_for_failures<R: Wait>(&self, rt: &R, wanted: u64) -> bool {
         for _ in 0..10_000 {
-            let found = self.failures.load(Ordering::SeqCst);
-            if found >= wanted {
+            if self.failures.load(Ordering::SeqCst) >= wanted {
                 return true;
             }
-            let millisecond = Duration::from_millis(1);
-            self.failures.park_timeout(rt, found as u32, millisecond);
+            AtomicU64::new(0).park_timeout(rt, 0, Duration::from_millis(1));
         }
         false
     }
