@@ -15,8 +15,9 @@
 //!   publishes for each order;
 //! - one that waits for its lines under the lock;
 //! - a `hand_in` or `hand_in_all` that ends publication as if memory had run out: then every later look is `NoView`.
-//! `fl_board_tests` refuses these, the last by `a_seat_without_the_right_to_wait_is_shown_each_order`. It doesn't see a
-//! `hand_in_all` that stores its lines only once it has let the lock go, so that others may take orders in between.
+//! `fl_board_tests` refuses these, the last by `a_seat_without_the_right_to_wait_is_shown_each_order`; one that waits
+//! under the lock is seen by `tools/try_traces` alone. Nothing sees a `hand_in_all` that stores its lines only once it
+//! has let the lock go, so that others may take orders in between.
 #![tactic(auto)]
 
 mod asks;

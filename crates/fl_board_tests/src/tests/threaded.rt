@@ -5,7 +5,6 @@ ghost use Rattle.fl_core.specs.Tolds.{HasRoom};
 
 mod pool;
 mod rounds;
-mod stored;
 mod threads;
 mod watched;
 
