@@ -7,4 +7,3 @@ mod outputs;
 mod pieces;
 mod scripts;
 mod streams;
-mod watching;

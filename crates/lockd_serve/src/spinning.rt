@@ -30,8 +30,6 @@ pub(crate) struct Spinning<'a, R> {
     socket: &'a UnixStream,
     // How many reads come before the next spin.
     without_spin: u32,
-    // Why the last read that failed did so.
-    failed: Option<ErrorKind>,
 }
 
 impl<'a, R: Read> Spinning<'a, R> {
@@ -43,13 +41,7 @@ impl<'a, R: Read> Spinning<'a, R> {
             stream,
             socket,
             without_spin: 0,
-            failed: None,
         }
-    }
-
-    /// Why the last read that failed did so; none if none failed.
-    pub(crate) fn failed(&self) -> Option<ErrorKind> {
-        self.failed
     }
 
     // What a spin reads; none if it found nothing, or if it isn't time for one.
@@ -80,14 +72,10 @@ impl<R: Read> Read for Spinning<'_, R> {
     ghost remaining = { λ l. R.remaining l.stream };
 
     fn read(&mut self, buf: &mut [u8]) -> io::Result<usize> {
-        let read = match self.spin(buf) {
+        match self.spin(buf) {
             Some(read) => read,
             None => self.stream.read(buf),
-        };
-        if let Err(error) = &read {
-            self.failed = Some(error.kind());
         }
-        read
     }
 }
 
