@@ -21,8 +21,6 @@ const ROOT_MODE: u32 = 0o40755;
 pub struct Node {
     /// How often it was looked up and not yet forgotten (the lookup count of Linux `fuse.h`).
     pub lookups: u64,
-    /// The name under which it was made.
-    pub name: Name,
     /// It still has its name.
     pub linked: bool,
     /// The file type and the permissions, as `st_mode`.
@@ -31,6 +29,8 @@ pub struct Node {
     pub uid: u32,
     /// The group of who made it.
     pub gid: u32,
+    /// The name under which it was made, behind what most requests look at.
+    pub name: Name,
 }
 
 pub(crate) fn made_node(uid: u32, gid: u32, mode: u32, name: &Name) -> Node

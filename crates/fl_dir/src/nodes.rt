@@ -13,11 +13,11 @@ use crate::node::Node;
 use crate::numbered::chain_of;
 use fl_order::Name;
 
-/// A node, and how many fhs are open on it.
+/// How many fhs are open on a node, and the node.
 #[derive(Clone, Copy)]
 pub(crate) struct Slot {
-    pub(crate) node: Node,
     pub(crate) fhs: u32,
+    pub(crate) node: Node,
 }
 
 impl Dir {

@@ -9,8 +9,8 @@ use std::marker::Model;
 /// A file name: 0 to 255 bytes, none of them zero. Contracts see it as the list of its bytes.
 #[derive(Clone, Copy)]
 pub struct Name {
-    array: [u8; 255],
     len: u8,
+    array: [u8; 255],
 }
 
 impl Model for Name {
