@@ -377,6 +377,7 @@ fn collect<R: Wait, W: Write, N: WriterName>(
 }
 
 // The replies that a session's workers have collected.
+#[derive(Drop)]
 struct Collected<'s, 'w, W: Write, N: WriterName> {
     sender: &'s Mutex<SharedSender<'w, W, N>>,
 }
