@@ -96,7 +96,17 @@ fn drive<'a>(alloc: Global) -> Result<Command<'a>, Error> {
     let drive = Command::new(alloc, "drive").about(
         "Sends the lines of hex on standard input to a server, and prints its replies: `recv N` waits for N",
     );
-    Ok(drive.arg(socket(alloc))?)
+    with_verbose(alloc, drive.arg(socket(alloc))?)
+}
+
+// A command with the option that asks for more lines.
+fn with_verbose<'a>(alloc: Global, command: Command<'a>) -> Result<Command<'a>, Error> {
+    let verbose = flag(
+        alloc,
+        "verbose",
+        "Says more on standard error: behind a fault its reason and what to do, how much was read, and what a server does",
+    );
+    Ok(command.arg(verbose.short('v'))?)
 }
 
 // A command with the options that say where its trace goes.
@@ -148,7 +158,7 @@ fn with_rules<'a>(alloc: Global, command: Command<'a>) -> Result<Command<'a>, Er
         "Lets a request for a record lock wait behind an older one that waits and excludes it",
     );
     let command = with_locks(alloc, command.arg(fair)?)?;
-    with_files(alloc, command)
+    with_verbose(alloc, with_files(alloc, command)?)
 }
 
 // A command with the options that say how many locks and parked requests there may be.

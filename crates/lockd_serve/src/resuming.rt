@@ -10,7 +10,8 @@ ghost use Rattle.lockd_serve.specs.Behind.{AreLinesOf, FileSays, ServesBehind, S
 ghost use Rattle.lockd_serve.specs.Ending.{Ending};
 ghost use Rattle.lockd_serve.specs.Inside.{DiffersBy, told_of_reading};
 
-use crate::ending::end_resumed;
+use crate::ending::{end_resumed, end_unheard, end_unopened};
+use crate::observer::{Observer, Untraced};
 use crate::retrying::{Retrying, Telling, WhenUnwritten};
 use crate::serving::hang_up;
 use crate::socket::{OldSocket, connection};
@@ -38,8 +39,9 @@ use std::time::Clock;
 /// lines of each order are written before any of its replies leaves. While a write fails, `when` says what happens, and
 /// `notices` gets a line of it. If no legal history begins with the file's lines, it stays as it is, `faults` gets `bad
 /// line` or `differs` with the line's number, and nobody is served. A fault of the session is one line on `faults`, and
-/// behind it `trace failed` if the file lacks lines, or is gone.
-pub fn resume_on<R: Net + Files + Clock, F: Write, N: Write + Drop>(
+/// behind it `trace failed` if the file lacks lines, or is gone. The observer is told what the server does, and after
+/// `cannot listen` and `cannot trace` why it serves nobody.
+pub fn resume_on<R: Net + Files + Clock, F: Write, N: Write + Drop, O: Observer>(
     rt: &R,
     alloc: Global,
     path: Path<'_>,
@@ -49,6 +51,7 @@ pub fn resume_on<R: Net + Files + Clock, F: Write, N: Write + Drop>(
     when: WhenUnwritten,
     faults: &mut F,
     notices: N,
+    observer: &mut O,
 ) -> Status
     // Behind some lines: no clause ties them to the file, of whose bytes contracts see nothing.
     ensures over { let it : Ending = record {
@@ -62,16 +65,18 @@ pub fn resume_on<R: Net + Files + Clock, F: Write, N: Write + Drop>(
       told_now = F.contents faults.new;
     }) }
 {
-    if file.try_lock().is_err() || !is_at(rt, Path::new(name), &file) {
-        return end(faults, Err(CommandFault::Trace));
+    if let Some(why) = untakable(rt, &file, name) {
+        return end_unopened(faults, observer, why);
     }
     let (resumed, recent) = match resumed_from(alloc, rules, &mut file) {
         Ok(found) => found,
+        Err(CommandFault::Trace) => return end_unopened(faults, observer, unfit(&file)),
         Err(fault) => return end(faults, Err(fault)),
     };
-    let stream = match connection(rt, alloc, path, OldSocket::Replace) {
+    observer.resumed();
+    let stream = match connection(rt, alloc, path, OldSocket::Replace, observer) {
         Ok(stream) => stream,
-        Err(fault) => return end(faults, Err(fault)),
+        Err(why) => return end_unheard(faults, observer, why),
     };
     let mut r = Spinning::new(&stream, &stream);
     let mut w = Patient::new(&stream, &stream);
@@ -81,7 +86,30 @@ pub fn resume_on<R: Net + Files + Clock, F: Write, N: Write + Drop>(
     };
     hang_up(&stream);
     let whole = ended.whole && is_at(rt, Path::new(name), ended.file.writer().file());
-    end_resumed(faults, ended.fault, whole)
+    let status = end_resumed(faults, ended.fault, whole);
+    observer.ended(r.failed());
+    status
+}
+
+// Why a server can't take a file of this name, if it can't. It is locked, if it can.
+fn untakable<R: Files>(rt: &R, file: &File, name: &str) -> Option<Untraced> {
+    if file.try_lock().is_err() {
+        return Some(Untraced::Taken);
+    }
+    if !is_at(rt, Path::new(name), file) {
+        return Some(Untraced::Gone);
+    }
+    None
+}
+
+// Why no server goes on behind a file that can be read.
+fn unfit<T: OpenFile>(file: &T) -> Untraced {
+    let regular = file.metadata().map(|found| found.is_file());
+    if regular.unwrap_or(false) {
+        Untraced::Uncut
+    } else {
+        Untraced::Irregular
+    }
 }
 
 /// What a server goes on from behind the lines of a trace's file, under these rules, and the last of these lines. Nothing

@@ -30,6 +30,8 @@ pub(crate) struct Spinning<'a, R> {
     socket: &'a UnixStream,
     // How many reads come before the next spin.
     without_spin: u32,
+    // Why the last read that failed did so.
+    failed: Option<ErrorKind>,
 }
 
 impl<'a, R: Read> Spinning<'a, R> {
@@ -41,7 +43,13 @@ impl<'a, R: Read> Spinning<'a, R> {
             stream,
             socket,
             without_spin: 0,
+            failed: None,
         }
+    }
+
+    /// Why the last read that failed did so; none if none failed.
+    pub(crate) fn failed(&self) -> Option<ErrorKind> {
+        self.failed
     }
 
     // What a spin reads; none if it found nothing, or if it isn't time for one.
@@ -72,10 +80,14 @@ impl<R: Read> Read for Spinning<'_, R> {
     ghost remaining = { λ l. R.remaining l.stream };
 
     fn read(&mut self, buf: &mut [u8]) -> io::Result<usize> {
-        match self.spin(buf) {
+        let read = match self.spin(buf) {
             Some(read) => read,
             None => self.stream.read(buf),
+        };
+        if let Err(error) = &read {
+            self.failed = Some(error.kind());
         }
+        read
     }
 }
 
