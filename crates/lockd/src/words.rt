@@ -192,6 +192,13 @@ pub(crate) fn tell_lines<W: Write>(to: &mut W, status: Status, name: &str, watch
     }
 }
 
+/// Says why the last read failed of an input of this name.
+pub(crate) fn tell_unread<W: Write>(to: &mut W, name: &str, failed: Option<ErrorKind>) {
+    if let Some(why) = failed {
+        let _ = writeln!(to, "{name} can't be read: {why}");
+    }
+}
+
 /// Says which line of hex is bad, and why.
 pub(crate) fn tell_hex<W: Write>(to: &mut W, name: &str, n: usize, line: &[u8]) {
     tell_bad(to, name, n, line, why_bad_hex(line));
