@@ -3,13 +3,15 @@
 ghost use Rattle.std.specs.Prelude.{◌≡◌};
 
 use std::io;
-use std::io::Read;
+use std::io::{ErrorKind, Read};
 
-/// Reads what another reader has, and keeps it, if there is a text to keep it in and memory for it.
+/// Reads what another reader has, and keeps it, if there is a text to keep it in and memory for it. It keeps why the
+/// last read that failed did so.
 #[derive(Drop)]
 pub(crate) struct Kept<R> {
     input: R,
     text: Option<Vec<u8>>,
+    failed: Option<ErrorKind>,
 }
 
 impl<R: Read> Kept<R> {
@@ -17,12 +19,16 @@ impl<R: Read> Kept<R> {
     pub(crate) fn new(input: R, text: Option<Vec<u8>>) -> Kept<R>
         ensures { result.input ≡ input }
     {
-        Kept { input, text }
+        Kept {
+            input,
+            text,
+            failed: None,
+        }
     }
 
-    /// The reader.
-    pub(crate) fn input(&mut self) -> &mut R {
-        &mut self.input
+    /// Why the last read that failed did so; none if none failed.
+    pub(crate) fn failed(&self) -> Option<ErrorKind> {
+        self.failed
     }
 
     /// The line of this number, from 1, with its newline if one ends it; none if it wasn't kept.
@@ -44,8 +50,13 @@ impl<R: Read> Read for Kept<R> {
 
     fn read(&mut self, buf: &mut [u8]) -> io::Result<usize> {
         let read = self.input.read(buf);
-        if let (Ok(count), Some(text)) = (&read, &mut self.text) {
-            let _ = text.extend_from_slice(&buf[..*count]);
+        match &read {
+            Ok(count) => {
+                if let Some(text) = &mut self.text {
+                    let _ = text.extend_from_slice(&buf[..*count]);
+                }
+            }
+            Err(error) => self.failed = Some(error.kind()),
         }
         read
     }

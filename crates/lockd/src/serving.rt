@@ -11,8 +11,8 @@ use crate::words::{ServerWords, tell_lines};
 use lockd_cli::{Trace, WhenFull, WhenStuck};
 use lockd_commands::{CommandFault, Rules, Status, Watch, Watched};
 use lockd_serve::{
-    ServeOptions, Telling, TraceTo, Untraced, WhenUnwritten, WhenWriterFails, end_unopened,
-    end_without_file, is_at, is_unused, resume_on, serve_on,
+    Noting, Observer, ServeOptions, Telling, TraceTo, Untraced, WhenUnwritten, WhenWriterFails,
+    end_unopened, end_without_file, is_at, is_unused, resume_on, serve_on,
 };
 use std::fs::{File, Files, OpenOptions};
 use std::io::{Read, Stderr, Write};
@@ -66,7 +66,7 @@ fn serve_opened<T: Threads + Wait + Net + Files + Sync>(
 ) -> Status
     requires workers { (0 < options.workers) × (options.workers ≤ 16) }
 {
-    let mut output = io::writer(rt);
+    let mut output = Noting::new(io::writer(rt));
     let mut faults = rt.stderr();
     let path = Path::new(socket);
     let (status, written) = serve_on(
@@ -78,8 +78,9 @@ fn serve_opened<T: Threads + Wait + Net + Files + Sync>(
         &mut faults,
         words,
     );
+    words.printed(status, output.failed());
     remove_unused(rt, trace, status);
-    end_traced(rt, trace, written, status, &mut faults)
+    end_traced(rt, trace, written, status, &mut faults, words)
 }
 
 /// `lockd serve --resume`.
@@ -161,7 +162,7 @@ fn tell_file<F: Write>(rt: &HostRuntime, file: &str, rules: Rules, status: Statu
     let Ok(trace) = File::open(rt, Path::new(file)) else {
         return;
     };
-    let mut input = Watched::new(trace, Watch::of_trace(rt.alloc(), rules).ok());
+    let mut input = Watched::new(trace, Watch::of_trace(rt.alloc(), rules, usize::MAX).ok());
     read_through(&mut input);
     if let Some(watch) = input.seen() {
         tell_lines(faults, status, file, watch);
@@ -202,11 +203,17 @@ fn opened<'a, R: Files, F: Write, N: Write>(
                 Ok(made) => made,
                 Err(error) => return Err(end_unopened(faults, words, Untraced::Unopened(error))),
             };
-            // So that no other server goes on in it.
-            let _ = made.try_lock();
             words.begun();
+            lock(&made, words);
             Ok(TraceTo::Writer(Telling::new(made, file.as_str(), rt.stderr())))
         }
+    }
+}
+
+// Locks a trace's file, so that no other server goes on in it.
+fn lock<R: Files, N: Write>(made: &File, words: &mut ServerWords<'_, R, N>) {
+    if let Err(error) = made.try_lock() {
+        words.unlocked(&io::Error::from(error));
     }
 }
 
@@ -235,11 +242,14 @@ fn end_traced<F: Write>(
     written: Option<Written<'_>>,
     status: Status,
     faults: &mut F,
+    words: &mut Words<'_>,
 ) -> Status {
     match (trace, &written) {
         (Trace::File(file, _), Some(written))
             if !is_at(rt, Path::new(file.as_str()), written.file()) => {
-            end_without_file(faults, status)
+            let status = end_without_file(faults, status);
+            words.lost();
+            status
         }
         _ => status,
     }

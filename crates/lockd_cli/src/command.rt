@@ -144,7 +144,7 @@ fn when_full<'a>(alloc: Global) -> Arg<'a> {
         .long("trace-full")
         .value_name("WORD")
         .help(
-            "What happens while the trace's file can't be written. With --trace FILE orders go on without it, if not said, or are refused. With --resume FILE clients wait, if not said, or the session ends",
+            "What happens while the trace's file can't be written. With --trace FILE orders go on without it, if not said; refuse has replies wait until their lines are in the file, and refuses what can't be taken meanwhile. With --resume FILE clients wait, if not said, or the session ends",
         )
         .action(ArgAction::Set)
         .value_parser(WHEN_FULL)

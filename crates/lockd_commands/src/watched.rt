@@ -82,16 +82,19 @@ pub struct Watch {
     pub found: Vec<u8>,
     /// The reply that the rules want in its place, as a line; nothing if they want an order.
     pub wanted: Vec<u8>,
+    // So many lines are looked at, and no more.
+    most: usize,
     // What the rules want next; none if only orders may stand there.
     witness: Option<Witness>,
 }
 
 impl Watch {
-    /// Of a trace, which these rules judge.
-    pub fn of_trace(alloc: Global, rules: Rules) -> Result<Watch, NoMemory>
+    /// Of so many lines of a trace, which these rules judge.
+    pub fn of_trace(alloc: Global, rules: Rules, lines: usize) -> Result<Watch, NoMemory>
         ensures { IfOk result SawNothing }
     {
         let mut watch = Watch::of_orders(alloc);
+        watch.most = lines;
         watch.witness = Some(Witness::new(alloc, rules)?);
         Ok(watch)
     }
@@ -108,6 +111,7 @@ impl Watch {
             text: Vec::new(alloc),
             found: Vec::new(alloc),
             wanted: Vec::new(alloc),
+            most: usize::MAX,
             witness: None,
         }
     }
@@ -126,9 +130,14 @@ impl Watch {
         self.add(rest);
     }
 
+    // Nothing that comes is looked at.
+    fn is_over(&self) -> bool {
+        self.bad.is_some() || self.lines >= self.most
+    }
+
     // These bytes of a line come next, none of them a newline.
     fn add(&mut self, part: &[u8]) {
-        if self.bad.is_none() {
+        if !self.is_over() {
             let room = LINE_ROOM.saturating_sub(self.text.len());
             let count = part.len().min(room);
             let _ = self.text.extend_from_slice(&part[..count]);
@@ -137,7 +146,7 @@ impl Watch {
 
     // The line ends.
     fn end_line(&mut self) {
-        if self.bad.is_some() {
+        if self.is_over() {
             return;
         }
         self.lines = self.lines.saturating_add(1);
@@ -183,13 +192,16 @@ impl Watch {
     // Nothing more comes.
     fn end(&mut self) {
         let next = self.lines.saturating_add(1);
-        if self.bad.is_none() && self.differs.is_none() {
+        if self.is_over() {
+            return;
+        }
+        if self.differs.is_none() {
             self.want();
             if !self.wanted.is_empty() {
                 self.differs = Some(next);
             }
         }
-        if self.bad.is_none() && !self.text.is_empty() {
+        if !self.text.is_empty() {
             self.bad = Some(next);
         }
     }

@@ -17,7 +17,8 @@
 //! - a `resume_on` that serves nobody and tells any of its faults, or goes on behind no lines;
 //! - one that doesn't lock its file, or only once it was read, or doesn't ask at the end whether it is there;
 //! - a `remove_stale` that removes a socket at which somebody listens, or none;
-//! - a `Retrying` that gives up at `Wait`, tries again at `End`, or doesn't pause; a `Telling` that tells always or never;
+//! - a `Retrying` that gives up at `Wait`, tries again at `End`, or doesn't pause; a `Telling` that tells always or
+//!   never, or that all is written before it is;
 //! - an `is_at` that always gives the same answer;
 //! - a `Spinning` that never or always spins, reads on after a read that failed, or leaves its socket so that it
 //!   doesn't wait, and then gives `WouldBlock`;
@@ -31,13 +32,14 @@
 //! - the file at the path, once a client connects: `try_a_file_of_somebody_else` and `try_ends` of `tools/try_ends`;
 //! - traces, files that go or can't be written, and `when_full`: `tools/try_traces`;
 //! - `resume_on`, its file and old sockets: `tools/try_resumed`, `tools/try_resumed_files`;
-//! - what an observer is told: `tools/try_words`, `tools/try_commands`.
+//! - what an observer is told, and when all is written again: `tools/try_words`, `tools/try_commands`.
 //!
 //! None sees a `file_at` that gives another number for the device, since all their files lie on one. None sees a
 //! `Spinning` that reads on after a failed read.
 #![tactic(auto)]
 
 mod ending;
+mod noting;
 mod observer;
 mod options;
 mod resuming;
@@ -51,7 +53,8 @@ mod unused;
 
 pub use ending::end_unopened;
 pub use fl_stream::WhenWriterFails;
-pub use observer::{Observer, Untraced};
+pub use noting::Noting;
+pub use observer::{Observer, Parting, Untraced};
 pub use options::{ServeOptions, TraceTo};
 pub use resuming::{resume_on, resumed_from};
 pub use retrying::{Telling, WhenUnwritten};

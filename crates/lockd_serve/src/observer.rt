@@ -11,8 +11,9 @@ pub trait Observer {
     /// A client is connected.
     fn connected(&mut self);
 
-    /// The session is over. If a read from the client failed, this is why the last one did.
-    fn ended(&mut self, unread: Option<ErrorKind>);
+    /// The session is over, and this is what became of its client. If a write to it failed, `unwritten` says why the last
+    /// one did.
+    fn ended(&mut self, client: Parting, unwritten: Option<ErrorKind>);
 
     /// The lines of the trace's file were read, and it goes on behind them.
     fn resumed(&mut self);
@@ -22,6 +23,20 @@ pub trait Observer {
 
     /// There is no file for the trace. `cannot trace` was told.
     fn untraced(&mut self, why: Untraced);
+
+    /// The trace's file was removed or replaced by the end. `trace failed` was told.
+    fn lost(&mut self);
+}
+
+/// What the last read from a client said of it.
+#[derive(Clone, Copy, Debug, PartialEq, Eq)]
+pub enum Parting {
+    /// It had closed its end, and all that it sent was read.
+    Closed,
+    /// The read failed, for this reason.
+    Unread(ErrorKind),
+    /// It was there.
+    Here,
 }
 
 /// Why a server has no file for its trace.
@@ -29,12 +44,14 @@ pub trait Observer {
 pub enum Untraced {
     /// It can't be opened or made, for this reason.
     Unopened(io::Error),
-    /// Another server has it.
+    /// Another program has it locked.
     Taken,
-    /// It was removed or replaced by the time that it was locked.
+    /// It can't be locked, for this reason.
+    Unlocked(io::Error),
+    /// Another file stood at its path by the time that it was locked, or none.
     Gone,
-    /// It is no regular file.
+    /// It is no regular file, or the system doesn't tell.
     Irregular,
-    /// What follows its last newline can't be cut off.
-    Uncut,
+    /// What follows its last newline can't be cut off, for this reason.
+    Uncut(io::Error),
 }

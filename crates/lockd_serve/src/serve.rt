@@ -10,6 +10,7 @@ ghost use Rattle.lockd_serve.specs.declared.options.TraceTo.{TraceTo};
 ghost use Rattle.lockd_serve.specs.Unserved.{LeavesNothing, ServesNobody};
 
 use crate::ending::end_unheard;
+use crate::noting::Noting;
 use crate::observer::Observer;
 use crate::options::ServeOptions;
 use crate::serving::serve_stream;
@@ -76,9 +77,9 @@ pub fn serve_on<
         Err(why) => return (end_unheard(faults, observer, why), None),
     };
     let mut r = Spinning::new(&stream, &stream);
-    let mut w = Patient::new(&stream, &stream);
+    let mut w = Noting::new(Patient::new(&stream, &stream));
     let socket = Some(&stream);
     let served = serve_stream(rt, alloc, &mut r, &mut w, options, socket, output, faults);
-    observer.ended(r.failed());
+    observer.ended(r.client(), w.failed());
     served
 }

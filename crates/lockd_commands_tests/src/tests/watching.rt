@@ -29,12 +29,25 @@ fn is_seen(
     counts: Counts,
     lines: [&str; 3],
 ) {
+    is_seen_of(rt, alloc, text, most, usize::MAX, counts, lines);
+}
+
+// The same, where only so many lines are looked at.
+fn is_seen_of(
+    rt: &impl Abort,
+    alloc: Global,
+    text: &[u8],
+    most: usize,
+    first: usize,
+    counts: Counts,
+    lines: [&str; 3],
+) {
     let rules = Rules::standard();
     let options = CheckOptions {
         tells_quiet: false,
         cut: false,
     };
-    let watch = Watch::of_trace(alloc, rules).expect(rt, "memory");
+    let watch = Watch::of_trace(alloc, rules, first).expect(rt, "memory");
     let source = Source::new(text, most, Trouble::none());
     let mut input = Watched::new(source, Some(watch));
     let mut printed = Vec::new(alloc);
@@ -82,6 +95,20 @@ fn lines_in_pieces_of_each_size(rt: HostRuntime) {
             (3, 2, Some(4), Some(4)),
             lines,
         );
+    }
+}
+
+#[test]
+fn the_first_lines_alone(rt: HostRuntime) {
+    let alloc = rt.alloc();
+    let text = b"tell 1 ok\nx\ny\n";
+    for most in [1, 5, 1000] {
+        let none = ["", "", ""];
+        is_seen_of(&rt, alloc, text, most, 0, (0, 0, None, None), none);
+        let first = ["", "tell 1 ok\n", ""];
+        is_seen_of(&rt, alloc, text, most, 1, (1, 0, None, Some(1)), first);
+        let second = ["x\n", "tell 1 ok\n", ""];
+        is_seen_of(&rt, alloc, text, most, 2, (2, 0, Some(2), Some(1)), second);
     }
 }
 
