@@ -9,6 +9,7 @@
 //! - a `drive_on` that sends nothing, connects elsewhere, waits before it sends, doesn't close, or says `no memory`
 //!   at an empty path;
 //! - a `drive_on` that prints replies which didn't come from the socket (`try_stored_replies` in `tools/try_sockets`);
+//! - one that says another reason why it isn't connected, or none (`tools/try_words`);
 //! - a `Watch` that sees other lines than were read, counts them wrongly, or finds another line or reply.
 //!
 //! `lockd_commands_tests`, `tools/try_commands`, `tools/try_locks` and `tools/try_sockets` refuse these.
