@@ -81,7 +81,7 @@ impl<R: Files, W: Write> Observer for ServerWords<'_, R, W> {
     fn ended(&mut self, client: Parting, unwritten: Option<ErrorKind>) {
         match client {
             Parting::Closed => self.say("the client has closed its end"),
-            Parting::Here => self.say("the session is over before the client closed its end"),
+            Parting::Here => self.say("the server ended the session"),
             Parting::Unread(why) => self.say(Unread(why)),
         }
         if let Some(why) = unwritten {

@@ -35,7 +35,7 @@ pub enum Parting {
     Closed,
     /// The read failed, for this reason.
     Unread(ErrorKind),
-    /// It was there.
+    /// Neither, so that the server ended the session: after a DESTROY, or for a fault.
     Here,
 }
 
