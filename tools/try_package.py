@@ -31,7 +31,7 @@ def try_two_packages_have_the_same_bytes():
         assert first.read() == second.read(), "the second package has other bytes"
 
 
-def try_no_package_has_a_lockd_that_is_older_than_its_sources():
+def try_a_program_that_is_older_than_its_sources():
     lockd = shutil.copy(os.environ["LOCKD"], f"{WORK}/lockd_of_before")
     os.utime(lockd, (0, 0))
     ran = package("of_before", LOCKD=lockd)
