@@ -58,7 +58,9 @@ fn hand_in<L: BoardName, R: Wait + Abort>(
     requires room { HasRoom L.rules tolds.old }
     requires lists { (L.rules.parked + 1 ≤ lists.old.room) × (0 < lists.old.places) }
 {
-    let handed = board.hand_in_all(rt, &NothingOutgoing, seat, row, tolds, lists).is_ok();
+    let handed = board
+        .hand_in_all(rt, &NothingOutgoing, seat, row, tolds, lists)
+        .is_ok();
     assert!(rt; handed);
 }
 
