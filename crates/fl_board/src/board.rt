@@ -161,10 +161,10 @@ impl<L: BoardName, R: Wait + Drop, J: Journal> Board<L, R, J> {
 
     /// Takes orders of the seat's worker one after another under one lock, each as `hand_in` does, and then publishes
     /// them together. If lines must be stored before replies leave, it waits until those of all that it took are.
-    /// Before that it sends what is outgoing, and meanwhile others are refused. It hands out the replies to each in `lists`, in the place of those
-    /// before; `tolds` has room for those to one. It may end before it took all, when there may be no room for the
-    /// replies to one more or no place for their list. It takes one at least, or is refused. What is refused is the
-    /// first order that has no list.
+    /// Before that it sends what is outgoing. Until they are, others are refused. It hands out the replies to each in
+    /// `lists`, in the place of those before; `tolds` has room for those to one. It may end before it took all, when
+    /// there may be no room for the replies to one more or no place for their list. It takes one at least, or is
+    /// refused. What is refused is the first order that has no list.
     pub fn hand_in_all<W: Wait, O: Outgoing>(
         &self,
         rt: &W,
@@ -196,7 +196,7 @@ impl<L: BoardName, R: Wait + Drop, J: Journal> Board<L, R, J> {
         taken
     }
 
-    // Waits until all that was handed in through a seat is stored, or need not be. Others are refused meanwhile.
+    // Waits until all that was handed in through a seat is stored, or need not be. Until it is, others are refused.
     fn wait_until_stored<W: Wait>(&self, rt: &W, seat: &Seat<L>)
         ensures { IsStored J.stored seat.now.own }
     {

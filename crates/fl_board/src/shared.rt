@@ -28,7 +28,7 @@ use std::sync::ledger::{Book, Share};
 #[derive(Drop)]
 pub(crate) struct Shared<L: BoardName, R: Wait + Drop, J: Journal> {
     pub record: Record<L, R, J>,
-    // What was handed in up to when all lines were stored, or needed not be.
+    // What had been handed in when all lines were stored last, or didn't have to be.
     stored: Beginning<L, Ask>,
 }
 
@@ -72,8 +72,8 @@ impl<L: BoardName, R: Wait + Drop, J: Journal> Shared<L, R, J> {
         Ok(Shared { record, stored })
     }
 
-    /// Takes an order of the seat's worker, counts it, and publishes it. Lines that wait are stored first, so that they
-    /// count as stored even if those of this order have to wait.
+    /// Takes an order of the seat's worker, counts it, and publishes it. It is refused while lines of orders before it
+    /// wait to be stored.
     pub(crate) fn hand_in(
         &mut self,
         seat: &mut Seat<L>,
@@ -87,14 +87,16 @@ impl<L: BoardName, R: Wait + Drop, J: Journal> Shared<L, R, J> {
         ensures all { OnOk result (history_of L.rules self.new ≡ seat.new.own) }
         ensures refused { OnErr result ((seat.new ≡ seat.old) × (tolds.new ≡ tolds.old) × (self.new ≡ self.old)) }
     {
-        self.store_all();
+        if !self.store_all() {
+            return Err(HandFault::NoMemory);
+        }
         self.record.take(seat, order, tolds)?;
         self.record.publish();
         Ok(())
     }
 
-    /// Takes orders of the seat's worker, one after another, and publishes them together. Lines that wait are stored
-    /// first.
+    /// Takes orders of the seat's worker, one after another, and publishes them together. They are refused while lines
+    /// of orders before them wait to be stored.
     pub(crate) fn hand_in_all(
         &mut self,
         seat: &mut Seat<L>,
@@ -110,7 +112,10 @@ impl<L: BoardName, R: Wait + Drop, J: Journal> Shared<L, R, J> {
         ensures some { OnOk result (0 < length orders.now → 0 < length lists.new.lists) }
         ensures refused { OnErr result (length lists.new.lists < length orders.now) }
     {
-        self.store_all();
+        if !self.store_all() && !orders.is_empty() {
+            lists.clear();
+            return Err(HandFault::NoMemory);
+        }
         let taken = self.record.take_all(seat, orders, tolds, lists);
         self.record.publish();
         taken
@@ -153,18 +158,19 @@ impl<L: BoardName, R: Wait + Drop, J: Journal> Shared<L, R, J> {
         ensures same { self.new ≡ self.old }
         ensures stored { IsTrue result → IsStored J.stored seat.now.own }
     {
-        self.store_all();
+        let _ = self.store_all();
         seat.is_in(&self.stored)
     }
 
-    // Stores the desk's lines, if some wait that must be stored before replies leave.
+    // Stores the desk's lines, if some wait that must be stored before replies leave. It says whether none is left.
     #[tactic(auto, using(crate::proofs::Storing::same_stored))]
-    fn store_all(&mut self)
+    fn store_all(&mut self) -> bool
         ensures { self.new ≡ self.old }
     {
         if !self.stored.is(&self.record.all) && self.record.store() {
             self.stored = self.record.all.again();
         }
+        self.stored.is(&self.record.all)
     }
 
     /// Flushes the desk's journal: no order is at hand.

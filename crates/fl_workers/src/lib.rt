@@ -5,11 +5,11 @@
 //! - a worker or a `handle_all` that refuses orders, never looks, or looks for an order only after it handed in some
 //!   behind it; and one, or a `receive_all`, that tells that replies were lost, and leaves some out or none;
 //! - a worker that ends at once, takes or hands in orders one by one, keeps replies until the end, calls no gate,
-//!   pauses never or always, or waits for ever;
+//!   pauses never or always, or waits for ever; and one that gives the counter nothing to send before it waits;
 //! - a `new` of room that is always refused;
 //! - a `SharedSender` that is broken at once, collects nothing, or closes as if it weren't whole, and a `receive_all`
 //!   that sends late or never what it collected.
-//! `fl_workers_tests` and `fl_serve_tests` refuse these.
+//! `fl_workers_tests` and `fl_serve_tests` refuse these; what the counter sends is seen by `tools/try_traces` alone.
 #![tactic(auto)]
 
 mod entry;
