@@ -3,34 +3,40 @@
 #   lockd   a folder that mount/out/lockd_mount has mounted, with 1 and 4 workers;
 #   null    a FUSE file system in C of one thread that answers 0 to each message: the floor of any FUSE server;
 #   memory  files in /dev/shm, with no server.
+# With --resume it times two mounts with 1 worker alone, one with a trace and one with --resume.
 # Each process makes as many calls as the argument says (20,000 without one), four times as many in memory, and a tenth
 # goes before them that doesn't count. Each run has a mount of its own. The runs take turns, three times, and the best of
 # each figure counts. Prints pairs a second and p50 of a call, then the ratios, and what is aimed at. Wants root,
 # /dev/fuse, a C compiler and Python 3.
 #
-#     bench/mount.sh [CALLS]
+#     bench/mount.sh [--resume] [CALLS]
 set -eu
 . "$(dirname "$0")/../tools/built_lockd.sh"
 for source in null_fuse fcntl; do
     cc -O2 -Wall -Wextra -o "$work/$source" "bench/peers/$source.c"
 done
 mount/build
+resumes=
+[ "${1:-}" != --resume ] || { resumes=1 && shift; }
 unshare --mount --propagation private --pid --fork --kill-child --mount-proc \
-    python3 - "$(realpath "$program")" "$work" "${1:-20000}" <<'END'
+    python3 - "$(realpath "$program")" "$work" "${1:-20000}" "$resumes" <<'END'
 import itertools, os, shutil, subprocess, sys, tempfile, time
 
-PROGRAM, WORK, CALLS = *sys.argv[1:3], int(sys.argv[3])
+PROGRAM, WORK, CALLS, RESUMES = *sys.argv[1:3], int(sys.argv[3]), sys.argv[4]
 ROUNDS, LONGEST = 3, 120
 NUMBER = itertools.count()
 PROCESSES = 1, 8
 LOCKD = ["lockd, 1 worker", "lockd, 4 workers"]
-FILES = ["memory", "null", *LOCKD]
+FILES = ["lockd, 1 worker", "lockd, 1 worker, resume"] if RESUMES else ["memory", "null", *LOCKD]
+# What ratios are to, and what is aimed at: at least so much.
+AIMS = {"lockd, 1 worker": 0.93} if RESUMES else {"null": 0.8, "memory": None}
 
 # The command that mounts a folder.
 def server(files, folder):
     if files == "null":
         return [f"{WORK}/null_fuse", folder]
-    return ["mount/out/lockd_mount", folder, "--workers", files.split()[1], "--trace", f"{WORK}/trace{next(NUMBER)}"]
+    trace = "--resume" if files.endswith("resume") else "--trace"
+    return ["mount/out/lockd_mount", folder, "--workers", files.split()[1], trace, f"{WORK}/trace{next(NUMBER)}"]
 
 # The best total of pairs a second, and the median of the processes' p50 in nanoseconds.
 def timed(folder, processes, calls):
@@ -74,8 +80,9 @@ print(f"{CALLS} calls a process, best of {ROUNDS}, {os.cpu_count()} processors, 
 table("pairs of lock and unlock a second", [(it, [f"{BEST[it, count][0]:.0f}" for count in PROCESSES]) for it in FILES])
 table("p50 of a call, us", [(it, [f"{BEST[it, count][1] / 1000:.1f}" for count in PROCESSES]) for it in FILES])
 table("ratio of pairs a second", [(f"{it} / {peer}", [f"{ratio(it, peer, count):.3f}" for count in PROCESSES])
-                                  for peer in ("null", "memory") for it in FILES if it != peer and not (it == "memory")])
+                                  for peer in AIMS for it in FILES if it not in (peer, "memory")])
 print()
-for files in LOCKD:
-    print(f"aim, pairs to null, at least 0.8: " + ", ".join(f"{ratio(files, 'null', it):.2f} ({it})" for it in PROCESSES) + f", {files}")
+for peer, aim in AIMS.items():
+    for files in (it for it in FILES if aim and it.startswith("lockd") and it != peer):
+        print(f"aim, pairs to {peer}, at least {aim}: " + ", ".join(f"{ratio(files, peer, it):.2f} ({it})" for it in PROCESSES) + f", {files}")
 END

@@ -1,22 +1,25 @@
 #!/bin/sh
-# Times `lockd serve` by where its trace goes: nowhere, to a file, or printed at the end; with 1 and 4 workers and 64 messages under way; and with
-# one worker to the file of `--resume`, also with 1 message under way. A server resumes from the lines of all messages, beside `lockd check`.
-# A desk takes as many orders in one program (`bench/programs/history_bench`), whose lines go nowhere, to a file, or into memory.
+# Times `lockd serve` by where its trace goes: nowhere, to a file, or printed at the end, with 1 and 4 workers; and to the file of
+# `--resume`, with 1. 64 messages are under way. A desk takes as many orders in one program (`bench/programs/history_bench`), whose
+# lines go nowhere, to a file, or into memory.
 # Prints pairs of SETLK and unlock a second while the session runs and their ratios to `--trace none`; how much memory the
 # process had at most (VmHWM of /proc), beside that of a session with a tenth of the messages; and what `lockd check` says of each trace.
+# With --resume it times `--trace FILE` and `--resume FILE` alone, with 64 messages and with 1 under way, and prints the ratios of their
+# pairs; then how long a server takes that resumes from the lines of all messages, to what `lockd check` takes of them.
 # The runs take turns, three times, and the best of each figure counts. It builds the client of bench/peers.sh, by a C compiler.
 #
-#     bench/trace.sh [MESSAGES]
+#     bench/trace.sh [--resume] [MESSAGES]
 set -eu
 . "$(dirname "$0")/../tools/built_lockd.sh"
 cc -O2 -Wall -Wextra -o "$work/client" bench/peers/client.c
-desk=$(tools/build_bench history_bench)
+desk=
+if [ "${1:-}" = --resume ]; then shift; else desk=$(tools/build_bench history_bench); fi
 python3 - "$program" "$work" "${1:-1000000}" "$desk" <<'END'
 import itertools, os, socket, struct, subprocess, sys, time
 
 PROGRAM, WORK, MESSAGES, DESK = *sys.argv[1:3], int(sys.argv[3]), sys.argv[4]
 ROUNDS, LONGEST = 3, 300
-LINES = f"{WORK}/lines_of_all"
+LINES = f"{WORK}/lines_of_the_last"
 NUMBER = itertools.count()
 MODES = {"none": lambda file: ["--trace", "none"], "file": lambda file: ["--trace", file], "printed": lambda file: [],
          "resume": lambda file: ["--resume", file]}
@@ -79,27 +82,40 @@ def read_again():
         subprocess.run([PROGRAM, "check"], stdin=trace, stdout=subprocess.DEVNULL, timeout=LONGEST, check=True)
     return served, time.perf_counter() - begun
 
-best, desks, singly, again = {}, {}, {}, []
-for _ in range(ROUNDS):
-    for where in "none", f"{WORK}/lines", "memory":
-        desks[where] = max(desks.get(where, 0), at_desk(where))
+def by_trace():
+    best, desks = {}, {}
+    for _ in range(ROUNDS):
+        for where in "none", f"{WORK}/lines", "memory":
+            desks[where] = max(desks.get(where, 0), at_desk(where))
+        for workers, mode in WAYS:
+            _, before = measured(mode, workers, MESSAGES // 10)
+            pairs, memory = measured(mode, workers, MESSAGES)
+            old = best.get((mode, workers), (0, 0, 0))
+            best[mode, workers] = max(old[0], pairs), memory, before
+    for where, rate in desks.items():
+        name = "file" if "/" in where else where
+        print(f"desk, lines {name}: {rate:.0f} orders a second, ratio {rate / desks['none']:.2f} (to none)")
     for workers, mode in WAYS:
-        _, before = measured(mode, workers, MESSAGES // 10)
-        pairs, memory = measured(mode, workers, MESSAGES)
-        old = best.get((mode, workers), (0, 0, 0))
-        best[mode, workers] = max(old[0], pairs), memory, before
-    again.append(read_again())
-    for mode in "file", "resume":
-        singly[mode] = max(singly.get(mode, 0), measured(mode, 1, MESSAGES // 4, 1)[0])
-for where, rate in desks.items():
-    name = "file" if "/" in where else where
-    print(f"desk, lines {name}: {rate:.0f} orders a second, ratio {rate / desks['none']:.2f} (to none)")
-for workers, mode in WAYS:
-    pairs, memory, before = best[mode, workers]
-    print(f"{workers} workers, trace {mode}: {pairs:.0f} pairs a second, ratio {pairs / best['none', workers][0]:.2f} (to none); "
-          f"{memory:.1f} MB, {before:.1f} with a tenth of the messages")
-for window, found in (64, {mode: best[mode, 1][0] for mode in singly}), (1, singly):
-    print(f"resume, {window} under way: {found['resume']:.0f} pairs a second, ratio {found['resume'] / found['file']:.2f} (to trace file)")
-served, checked = map(min, zip(*again))
-print(f"resume of the lines of {MESSAGES} messages: {served:.2f} s, ratio {served / checked:.2f} (to check)")
+        pairs, memory, before = best[mode, workers]
+        print(f"{workers} workers, trace {mode}: {pairs:.0f} pairs a second, ratio {pairs / best['none', workers][0]:.2f} (to none); "
+              f"{memory:.1f} MB, {before:.1f} with a tenth of the messages")
+
+# With 1 message under way there are a quarter as many, since each takes longer.
+def by_resuming():
+    best, again, messages = {}, [], {64: MESSAGES, 1: MESSAGES // 4}
+    for _ in range(ROUNDS):
+        for window in 1, 64:
+            for mode in "file", "resume":
+                best[mode, window] = max(best.get((mode, window), 0), measured(mode, 1, messages[window], window)[0])
+        again.append(read_again())
+    for window in messages:
+        pairs = best["resume", window]
+        print(f"resume, {window} under way: {pairs:.0f} pairs a second, ratio {pairs / best['file', window]:.2f} (to trace file)")
+    served, checked = map(min, zip(*again))
+    print(f"resume of the lines of {MESSAGES} messages: {served:.2f} s, ratio {served / checked:.2f} (to check)")
+
+if DESK:
+    by_trace()
+else:
+    by_resuming()
 END

@@ -18,12 +18,11 @@ static const char HELP[] =
     "comes. Starts `lockd serve` for it, and at the end judges the trace by `lockd check`. The program `lockd` is the one\n"
     "that $LOCKD names, else the one beside this program, else that of the repository.\n"
     "\n"
-    "  --workers N           1 to 16 workers of the server; if not said 1, and 2 with --trace-full refuse\n"
+    "  --workers N           1 to 16 workers of the server; 1, if not said\n"
     "  --trace FILE          a new file for the trace, or `none`; else one in a new folder in $TMPDIR or /tmp\n"
     "  --resume FILE         a new file for the trace; if the server ends, it is started again and goes on with FILE, and no\n"
     "                        lock is lost; with one worker, and without --trace\n"
-    "  --trace-full WORD     what the server does while the trace can't be written: go-on or refuse, which wants two\n"
-    "                        workers or more; with --resume, wait or end\n"
+    "  --trace-full WORD     what the server does while the trace can't be written: go-on; with --resume, wait or end\n"
     "  --times FILE          a new file for the times of requests and replies, for lockd_report\n"
     "  --fair, --runs N, --parked N, --files N, --open N\n"
     "                        the rules of the server, as `lockd serve --help` says\n"
@@ -139,17 +138,15 @@ void read_options(int argc, char **argv, struct options *options)
         {"version", no_argument, NULL, VERSIONS},        {"times", required_argument, NULL, TIMES},
         {"resume", required_argument, NULL, RESUME},     {NULL, 0, NULL, 0},
     };
-    *options = (struct options){.files = STANDARD_FILES, .open = STANDARD_OPEN, .mode = -1, .uid = -1, .gid = -1};
+    *options = (struct options){.workers = "1", .files = STANDARD_FILES, .open = STANDARD_OPEN, .mode = -1, .uid = -1, .gid = -1};
     int option, at = 0;
     while ((option = getopt_long(argc, argv, "", known, &at)) != -1)
         take(options, option, known[at].name);
     if (argc - optind != 1 || !*argv[optind])
         misused(argc - optind > 1 ? "more than one folder" : "no folder");
-    bool refuses = !options->resume && options->trace_full && !strcmp(options->trace_full, "refuse");
-    if (!options->workers)
-        options->workers = refuses ? "2" : "1";
-    if (refuses && atoi(options->workers) == 1)
-        misused("--trace-full refuse goes with two workers or more");
+    // The kernel doesn't send a FLUSH, RELEASE or FORGET again that is rejected, and sends an INTERRUPT again at once.
+    if (options->trace_full && !strcmp(options->trace_full, "refuse"))
+        misused("--trace-full refuse isn't for a mount, where a close that is rejected is lost: take go-on, or --resume FILE with wait or end");
     if (options->resume && (options->trace || atoi(options->workers) != 1))
         misused("--resume goes with one worker, and without --trace");
     options->folder = argv[optind];

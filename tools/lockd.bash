@@ -2,7 +2,7 @@
 # /etc/bash_completion.d. tools/check_man compares its words with what `lockd --help` says.
 _lockd() {
     local word=${COMP_WORDS[COMP_CWORD]} before=${COMP_WORDS[COMP_CWORD - 1]} command=${COMP_WORDS[1]}
-    local words= rules='--fair --runs --parked --files --open'
+    local words= rules='--fair --runs --parked --files --open --verbose'
     if [ "$COMP_CWORD" -eq 1 ]; then
         words="script check locks bytes serve drive help $rules --help --version"
     elif [ "$before" = --workers ]; then
@@ -28,7 +28,7 @@ _lockd() {
             check) words="--quiet --cut $rules --help" ;;
             locks) words="--at --file --json $rules --help" ;;
             script | bytes) words="$rules --help" ;;
-            drive) words='--help' ;;
+            drive) words='--verbose --help' ;;
             # Without a command it is script.
             -*) words=$rules ;;
         esac

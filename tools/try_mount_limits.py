@@ -1,5 +1,5 @@
 """Limits of a mount: how many files, open files, locks and waiting requests; where the trace goes."""
-import fcntl, os, subprocess, tempfile, threading, time
+import fcntl, os, subprocess, tempfile, time
 from try_mount_kit import *
 
 
@@ -193,39 +193,13 @@ def try_a_full_trace_is_said_while_it_runs():
     unmount(disk)
 
 
-def try_a_full_trace_may_refuse_locks():
-    """While the disk is full, calls wait or are refused. Once it has room, all go on."""
-    disk = tempfile.mkdtemp(dir=WORK)
-    subprocess.run(["mount", "-t", "tmpfs", "-o", "size=4k", "none", disk], check=True, timeout=PATIENCE)
-    mount = Mount("--trace", f"{disk}/trace", "--trace-full", "refuse")
-    fds = [os.open(f"{mount.folder}/job", os.O_RDWR | os.O_CREAT) for _ in range(2)]
-    said, over = [set(), set()], threading.Event()
-
-    def lock(fd, said):
-        while not over.is_set():
-            said.add(outcome(fcntl.flock, fd, SHARED))
-
-    lockers = [threading.Thread(target=lock, args=it, daemon=True) for it in zip(fds, said)]
-    for it in lockers:
-        it.start()
-    until(lambda: os.path.getsize(f"{disk}/trace") == 4096, 5 * PATIENCE)
-    subprocess.run(["mount", "-i", "-o", "remount,size=9m", disk], check=True, timeout=PATIENCE)
-    for it in said:
-        it.clear()
-    until(lambda: None in said[0] and None in said[1])
-    over.set()
-    for it in lockers:
-        it.join(PATIENCE)
-    for fd in fds:
-        same(outcome(fcntl.flock, fd, NOT_HELD), None)
-        os.close(fd)
-    shell(mount, "flock -n job echo in", "in")
-    same(mount.end(), (0, "legal"))
-    unmount(disk)
-
-
-def try_one_worker_cannot_refuse():
-    contains(refusal("--workers", "1", "--trace-full", "refuse", folder=tempfile.mkdtemp(dir=WORK)), "two workers or more")
+def try_a_mount_takes_no_refuse():
+    """With any other option, and nothing is made. The line names what to take."""
+    folder, trace = tempfile.mkdtemp(dir=WORK), f"{WORK}/refused.trace"
+    for words in (), ("--workers", "2"), ("--workers", "2", "--trace", trace), ("--trace", "none"), ("--resume", trace):
+        said = refusal(*words, "--trace-full", "refuse", folder=folder)
+        same((said.count("\n"), os.path.exists(trace), is_mounted(folder)), (1, False, False))
+        contains(said, "--trace-full refuse isn't for a mount", "a close that is rejected is lost", "go-on", "--resume FILE", "end")
 
 
 def try_a_limit_of_a_file_ends_no_server():

@@ -484,7 +484,7 @@ def try_what_cannot_be_resumed():
     both = "--resume goes with one worker, and without --trace"
     wanted = [(f"{__file__} isn't an empty file: name a new one", "--resume", __file__), ("isn't an empty file", "--resume", folder),
               (both, "--resume", new, "--workers", "2"), (both, "--resume", new, "--trace", "none"), (both, "--trace", new, "--resume", new),
-              ("no folder for /no/such/file", "--resume", "/no/such/file"), ("before it listened", "--resume", new, "--trace-full", "refuse"),
+              ("no folder for /no/such/file", "--resume", "/no/such/file"), ("before it listened", "--resume", new, "--trace-full", "go-on"),
               ("before it listened", "--trace", new, "--trace-full", "wait")]
     for said, *words in wanted:
         contains(refusal(*words, folder=folder), said)

@@ -1,31 +1,41 @@
 """What tools/try_package runs in its namespace: each function whose name begins with `try_` is one thing that is tried, in this order."""
-import glob, gzip, os, re, shlex, shutil, stat, subprocess, sys, tempfile, time, traceback
+import glob, gzip, hashlib, os, re, shlex, shutil, stat, subprocess, sys, tempfile, time, traceback
 
 sys.dont_write_bytecode = True
 from try_package_kit import *
 
 
+def package(name, **environment):
+    return subprocess.run([f"{TOP}/tools/package", f"{WORK}/{name}"], capture_output=True, text=True, timeout=PATIENCE, env={**os.environ, **environment})
+
+
 def made(name, **environment):
     """A package, and where it is."""
-    ran = subprocess.run([f"{TOP}/tools/package", f"{WORK}/{name}"], capture_output=True, text=True, timeout=PATIENCE, env={**os.environ, **environment})
+    ran = package(name, **environment)
     same((ran.returncode, ran.stderr), (0, ""))
     return ran.stdout.strip()
 
 
 def try_two_packages_have_the_same_bytes():
-    """Of a second build of lockd_mount, with other times, time zone and umask."""
+    """With other times, time zone and umask, and beside an older lockd_mount of the same version."""
     one = made("package")
     same(os.path.basename(one), f"lockd_{VERSION}_{printed_here('dpkg', '--print-architecture').strip()}.deb")
-    lockd = shutil.copy(os.environ["LOCKD"], f"{WORK}/lockd")
-    if os.environ.get("LOCKD_MOUNT"):
-        shutil.copy(os.environ["LOCKD_MOUNT"], f"{WORK}/lockd_mount")
-    else:
-        subprocess.run([f"{TOP}/mount/build", f"{WORK}/lockd_mount"], check=True, timeout=PATIENCE)
+    lockd, older = shutil.copy(os.environ["LOCKD"], f"{WORK}/lockd"), f"{WORK}/lockd_mount"
+    with open(older, "w", encoding="ascii") as file:
+        file.write(f"#!/bin/sh\necho lockd_mount {VERSION}\n")
+    os.chmod(older, 0o755)
     before = os.umask(0o077)
-    two = made("package_again", TZ="Asia/Tokyo", TMPDIR=WORK, LOCKD=lockd, LOCKD_MOUNT=f"{WORK}/lockd_mount")
+    two = made("package_again", TZ="Asia/Tokyo", TMPDIR=WORK, LOCKD=lockd, LOCKD_MOUNT=older)
     os.umask(before)
     with open(one, "rb") as first, open(two, "rb") as second:
         assert first.read() == second.read(), "the second package has other bytes"
+
+
+def try_a_program_that_is_older_than_its_sources():
+    lockd = shutil.copy(os.environ["LOCKD"], f"{WORK}/lockd_of_before")
+    os.utime(lockd, (0, 0))
+    ran = package("of_before", LOCKD=lockd)
+    same((ran.returncode, f"{lockd} is older than {TOP}/crates/" in ran.stderr, os.path.exists(f"{WORK}/of_before")), (2, True, False))
 
 
 def the_package():
@@ -83,7 +93,8 @@ def try_what_readme_says():
 def try_what_mount_refuses():
     os.makedirs(f"{ROOT}/srv/locks/file")
     for option, status, said in [("ro", 1, "no option ro"), ("nothing=1", 1, "no option nothing=1"), ("fair=1", 1, "fair takes no value"),
-                                 ("mode", 1, "mode takes a value"), ("mode=9", 32, "nothing is mounted"), ("rw", 32, "isn't empty")]:
+                                 ("mode", 1, "mode takes a value"), ("mode=9", 32, "nothing is mounted"), ("rw", 32, "isn't empty"),
+                                 ("trace-full=refuse", 32, "refuse isn't for a mount")]:
         ran = inside("mount", "-t", "fuse.lockd", "-o", option, "none", "/srv/locks")
         same((ran.returncode, said in ran.stderr, is_mounted("/srv/locks")), (status, True, False))
     shutil.rmtree(f"{ROOT}/srv/locks")
@@ -94,7 +105,7 @@ def try_what_mount_refuses():
 def try_an_upgrade_while_a_lock_is_held():
     """By a line of fstab, for a folder with a space in its name."""
     os.makedirs(f"{ROOT}/srv/my locks")
-    put("etc/fstab", "none /srv/my\\040locks fuse.lockd allow_other,mode=1777,nofail,x-any=1,resume=/srv/trace 0 0\n")
+    put("etc/fstab", "none /srv/my\\040locks fuse.lockd allow_other,mode=1777,nofail,resume=/srv/trace,x-systemd.requires-mounts-for=/srv 0 0\n")
     printed("mount", "/srv/my locks")
     same((is_mounted("/srv/my locks"), stat.S_IMODE(os.stat(f"{ROOT}/srv/my locks").st_mode)), (True, 0o1777))
     job = "/srv/my locks/job"
@@ -172,26 +183,71 @@ def is_as_before():
     same(sorted(written() ^ BEFORE), [])
 
 
+# ---- tools/install ----
+
+def install(*words, status=0):
+    """What it says on standard error."""
+    ran = subprocess.run([f"{TOP}/tools/install", *words, ROOT], capture_output=True, text=True, timeout=PATIENCE)
+    same((ran.returncode, ran.stderr if not status else ""), (status, ""))
+    return ran.stderr
+
+
+def uninstalls_nothing(prefix, *said):
+    before = written()
+    told = install("--uninstall", prefix, status=2)
+    same(([it for it in said if it not in told], sorted(before ^ written())), ([], []))
+
+
 def try_tools_install():
-    """Twice, and in the second place with a file that isn't ours."""
-    install = lambda *words: same(subprocess.run([f"{TOP}/tools/install", *words], capture_output=True, text=True, timeout=PATIENCE).stderr, "")
+    """Twice in each place. What is in use isn't removed."""
     os.mkdir(f"{ROOT}/srv/locks")
     for prefix in "/usr/local", "/srv/of/ours":
-        install(prefix, ROOT)
+        install(prefix)
         put(f"{prefix}/share/lockd/of_an_older_one", "")
         with open(f"{ROOT}{prefix}/share/lockd/installed", "a", encoding="utf-8") as file:
-            file.write(f"{prefix}/share/lockd/of_an_older_one\n")
-        install(prefix, ROOT)
+            file.write(f"{hashlib.sha256().hexdigest()} {prefix}/share/lockd/of_an_older_one\n")
+        install(prefix)
         printed(f"{prefix}/sbin/mount.fuse.lockd", "none", "/srv/locks", "-o", "trace=none")
         server, carrier = the_server()
         same([os.readlink(f"/proc/{it}/exe") for it in (server, carrier)], [f"{ROOT}{prefix}/bin/{it}" for it in ("lockd", "lockd_mount")])
         printed("flock", "/srv/locks/job", "true")
+        uninstalls_nothing(prefix, f"process {server}: ", f"process {carrier}: {prefix}/bin/lockd_mount ", "unmount the folders")
         printed("umount", "/srv/locks")
         until_all_have_ended()
-        install("--uninstall", prefix, ROOT)
+        wants = f"{ROOT}/etc/systemd/system/multi-user.target.wants"
+        os.makedirs(wants)
+        os.symlink(f"{prefix}/lib/systemd/system/lockd@.service", f"{wants}/lockd@srv-locks.service")
+        uninstalls_nothing(prefix, "unit lockd@srv-locks.service, which is enabled")
+        shutil.rmtree(f"{ROOT}/etc/systemd")
+        install("--uninstall", prefix)
     os.rmdir(f"{ROOT}/srv/locks")
     os.rmdir(f"{ROOT}/run/lockd_mount")
     is_as_before()
+
+
+def try_tools_install_touches_no_file_of_others():
+    """One that is there before, and one that was changed."""
+    page = "/usr/local/share/man/man1/lockd.1"
+    install("/usr/local")
+    put(page, "of another\n")
+    for words, status, said in (("/usr/local",), 2, "is in the way"), (("--uninstall", "/usr/local"), 1, "it stays"), (("/usr/local",), 2, "is in the way"):
+        told = install(*words, status=status)
+        same((f"{ROOT}{page} " in told, said in told, told.count("\n"), text_of(f"{ROOT}{page}")), (True, True, 1, "of another\n"))
+    same([it for it in below(f"{ROOT}/usr/local") if not os.path.isdir(it)], [f"{ROOT}{page}"])
+    os.remove(f"{ROOT}{page}")
+    os.removedirs(os.path.dirname(f"{ROOT}{page}"))
+    is_as_before()
+
+
+def try_tools_install_and_the_package():
+    """The package is installed over what tools/install has installed. All files that it has stay its own."""
+    install("/usr")
+    installs()
+    told = install("--uninstall", "/usr", status=1).splitlines()
+    same((len(told) > 50, [it for it in told if not it.endswith("belongs to the package lockd: it stays")]), (True, []))
+    same(printed("dpkg", "--verify", "lockd"), "")
+    same("belongs to the package lockd; remove it first" in install("/usr", status=2), True)
+    try_nothing_is_left()
 
 
 # ---- systemd itself ----
@@ -217,6 +273,7 @@ after a reload: held
 after an upgrade: held
 at the end: free
 fstab: locked
+fstab: after /var/lib
 fstab: unmounted
 removed
 0
@@ -244,7 +301,7 @@ def try_systemd_itself():
     for folder in "etc/systemd/system", "srv/by fstab", "sys", "var/tmp":
         os.makedirs(f"{ROOT}/{folder}")
     for path, text in {"etc/systemd/system/tried.target": TARGET, "etc/systemd/system/tried.service": SERVICE, "etc/machine-id": "1" * 32 + "\n",
-                       "etc/fstab": "none /srv/by\\040fstab fuse.lockd allow_other,mode=1777,noauto,resume=/srv/trace 0 0\n"}.items():
+                       "etc/fstab": "none /srv/by\\040fstab fuse.lockd allow_other,mode=1777,noauto,resume=/var/lib/trace,x-systemd.requires-mounts-for=/var/lib 0 0\n"}.items():
         put(path, text)
     group = tempfile.mkdtemp(prefix="try_package.", dir=groups[0])
     try:

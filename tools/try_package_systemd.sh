@@ -1,6 +1,7 @@
 #!/bin/bash
 # What systemd starts in the root folder of tools/try_package --systemd, which compares what this writes: the units of the package are
-# started, reloaded, and upgraded while a lock is held; a line of fstab; the package is removed. The package is /srv/lockd.deb.
+# started, reloaded, and upgraded while a lock is held; a line of fstab; the package is removed while a file is open. The package is
+# /srv/lockd.deb.
 folder='/srv/my locks'
 unit=lockd@$(systemd-escape -p "$folder").service
 
@@ -32,9 +33,14 @@ wait
 still 'at the end'
 
 systemctl start 'srv-by\x20fstab.mount' && flock '/srv/by fstab/job' echo 'fstab: locked'
+case " $(systemctl show -P RequiresMountsFor 'srv-by\x20fstab.mount') " in
+    *' /var/lib '*) echo 'fstab: after /var/lib' ;;
+esac
 systemctl stop 'srv-by\x20fstab.mount' && echo 'fstab: unmounted'
 systemctl -q enable lockd.service "$unit"
+sleep 1000 9> "$folder/job" &
 dpkg --force-unsafe-io -P lockd > /dev/null 2>&1 && echo removed
+kill $!
 grep -c fuse.lockd /proc/self/mountinfo
 find /etc/systemd/system/multi-user.target.wants /var/lib/lockd -mindepth 1 2> /dev/null
 systemctl exit --force --force

@@ -1,10 +1,13 @@
 -- Lines that are stored, and their prefixes.
-use Rattle.std.proofs.Common.{◌≡◌, List, ◌++◌, sym, ap, ◌∙◌, subst, append_assoc}
+use Rattle.std.proofs.Common.{◌≡◌, List, [], ◌++◌, refl, sym, ap, ◌∙◌, subst, append_assoc}
 use mathlib.Core.List.{IsPrefix}
 use Rattle.fl_desk.specs.Stored.{IsStored}
 use Rattle.fl_history.specs.declared.history.Line.{Line}
 
 module _ {J : Type 0} (stored : J → List Line) where
+  pub none_stored : (kept : J) → IsStored stored []
+  none_stored kept = record { kept = kept; front = (stored kept, refl) }
+
   pub same_stored : (lines lines_now : List Line) → lines_now ≡ lines → IsStored stored lines → IsStored stored lines_now
   same_stored lines lines_now same it = subst (IsStored stored) (sym same) it
 

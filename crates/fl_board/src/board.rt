@@ -15,7 +15,7 @@ use crate::asks::asks_lead;
 use crate::seat::Seat;
 use crate::shared::{Shared, are_apart};
 use fl_core::{Rules, Tolds};
-use fl_desk::{HandFault, NoView, ToldLists};
+use fl_desk::{HandFault, NoView, Outgoing, ToldLists};
 use fl_history::{History, Journal, Lines};
 use fl_log::{Beginning, FreshLog};
 use fl_order::{Answer, Errno, NoMemory, Order};
@@ -160,14 +160,15 @@ impl<L: BoardName, R: Wait + Drop, J: Journal> Board<L, R, J> {
     }
 
     /// Takes orders of the seat's worker one after another under one lock, each as `hand_in` does, and then publishes
-    /// them together. If lines must be stored before replies leave, it waits until those of all that it took are:
-    /// meanwhile others hand in, or are refused. It hands out the replies to each in `lists`, in the place of those
+    /// them together. If lines must be stored before replies leave, it waits until those of all that it took are.
+    /// Before that it sends what is outgoing, and meanwhile others are refused. It hands out the replies to each in `lists`, in the place of those
     /// before; `tolds` has room for those to one. It may end before it took all, when there may be no room for the
     /// replies to one more or no place for their list. It takes one at least, or is refused. What is refused is the
     /// first order that has no list.
-    pub fn hand_in_all<W: Wait>(
+    pub fn hand_in_all<W: Wait, O: Outgoing>(
         &self,
         rt: &W,
+        outgoing: &O,
         seat: &mut Seat<L>,
         orders: &[Order],
         tolds: &mut Tolds,
@@ -189,13 +190,13 @@ impl<L: BoardName, R: Wait + Drop, J: Journal> Board<L, R, J> {
             (taken, stored)
         };
         if !stored {
+            outgoing.send(rt);
             self.wait_until_stored(rt, seat);
         }
         taken
     }
 
-    // Waits until all that was handed in through a seat is stored, or need not be. Others hand in meanwhile, or are
-    // refused.
+    // Waits until all that was handed in through a seat is stored, or need not be. Others are refused meanwhile.
     fn wait_until_stored<W: Wait>(&self, rt: &W, seat: &Seat<L>)
         ensures { IsStored J.stored seat.now.own }
     {

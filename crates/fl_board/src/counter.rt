@@ -6,7 +6,7 @@ ghost use Rattle.fl_desk.specs.Answered.{IsAnsweredAfter, answered_by};
 use crate::board::Board;
 use crate::seat::Seat;
 use fl_core::Tolds;
-use fl_desk::{Counter, HandFault, NoView, ToldLists};
+use fl_desk::{Counter, HandFault, NoView, Outgoing, ToldLists};
 use fl_history::Journal;
 use fl_order::{Answer, Errno, Order};
 use fl_replica::BoardName;
@@ -27,15 +27,16 @@ impl<L: BoardName, P: Wait + Drop, J: Journal> Counter for Board<L, P, J> {
 
     ghost most_tolds = { L.rules.parked + 1 };
 
-    fn hand_in_all<R: Wait>(
+    fn hand_in_all<R: Wait, O: Outgoing>(
         &self,
         rt: &R,
+        outgoing: &O,
         seat: &mut Seat<L>,
         orders: &[Order],
         tolds: &mut Tolds,
         lists: &mut ToldLists,
     ) -> Result<(), HandFault> {
-        Board::hand_in_all(self, rt, seat, orders, tolds, lists)
+        Board::hand_in_all(self, rt, outgoing, seat, orders, tolds, lists)
     }
 
     fn look(&self, seat: &mut Seat<L>, order: &Order) -> Result<Result<Answer, Errno>, NoView> {

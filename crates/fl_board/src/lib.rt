@@ -13,10 +13,10 @@
 //!   `close` that says `NoView` once something was handed in or shown;
 //! - a `hand_in_all` that always ends behind its first order, is refused where it may end, or takes the lock or
 //!   publishes for each order;
-//! - one that waits for its lines under the lock;
+//! - one that waits for its lines under the lock, or while something is outgoing;
 //! - a `hand_in` or `hand_in_all` that ends publication as if memory had run out: then every later look is `NoView`.
-//! `fl_board_tests` refuses these, the last by `a_seat_without_the_right_to_wait_is_shown_each_order`; one that waits
-//! under the lock is seen by `tools/try_traces` alone. Nothing sees a `hand_in_all` that stores its lines only once it
+//! `fl_board_tests` refuses these, the last by `a_seat_without_the_right_to_wait_is_shown_each_order`; how one waits
+//! for its lines is seen by `tools/try_traces` alone. Nothing sees a `hand_in_all` that stores its lines only once it
 //! has let the lock go, so that others may take orders in between.
 #![tactic(auto)]
 

@@ -1,6 +1,7 @@
 //! A worker's place at a board.
 
-ghost use Rattle.std.specs.Prelude.{◌≡◌, ◌↔◌, true, IfOk, OnErr};
+ghost use Rattle.std.specs.Prelude.{◌≡◌, ◌↔◌, true, IfOk, IsTrue, OnErr};
+ghost use mathlib.Core.List.{IsPrefix};
 ghost use Rattle.fl_board.specs.Inside.Asks.{HasMostOf, history_of};
 ghost use Rattle.fl_board.specs.Refused.{BeginsWith};
 ghost use Rattle.fl_board.specs.Shown.{IsShown, KeepsHanded};
@@ -70,6 +71,13 @@ impl<L: BoardName> Seat<L> {
         }
         self.seen = shown;
         Ok(answer)
+    }
+
+    // Whether a history begins with all that was handed in through it.
+    pub(crate) fn is_in(&self, asks: &Beginning<L, Ask>) -> bool
+        ensures { IsTrue result → IsPrefix self.now.own (history_of L.rules asks.now) }
+    {
+        self.own.begins(asks)
     }
 
     // Whether a history begins with all that was handed in and shown through it.

@@ -16,7 +16,7 @@ use crate::seat::Seat;
 use fl_core::{Rules, Tolds};
 use fl_desk::{HandFault, NoView, ToldLists};
 use fl_history::Journal;
-use fl_log::FreshLog;
+use fl_log::{Beginning, FreshLog};
 use fl_order::{NoMemory, Order};
 use fl_replica::{Ask, BoardName};
 use std::alloc::Global;
@@ -28,17 +28,22 @@ use std::sync::ledger::{Book, Share};
 #[derive(Drop)]
 pub(crate) struct Shared<L: BoardName, R: Wait + Drop, J: Journal> {
     pub record: Record<L, R, J>,
+    // What was handed in up to when all lines were stored, or needed not be.
+    stored: Beginning<L, Ask>,
 }
 
 impl<L: BoardName, R: Wait + Drop, J: Journal> Model for Shared<L, R, J> {
     ghost use Rattle.std.specs.Prelude.{◌≡◌, IfSome, List};
+    ghost use Rattle.fl_board.specs.Inside.Asks.{history_of};
+    ghost use Rattle.fl_desk.specs.Stored.{IsStored};
     ghost use Rattle.fl_replica.specs.declared.ask.Ask.{Ask};
 
     ghost Value = { List Ask };
 
     ghost view = { λ s. s.record.asks };
 
-    ghost invariant = { λ s. IfSome s.record.shown (λ shown. shown ≡ s.record.asks) };
+    ghost invariant = { λ s. IfSome s.record.shown (λ shown. shown ≡ s.record.asks)
+        × IsStored J.stored (history_of L.rules s.stored) };
 }
 
 impl<L: BoardName, R: Wait + Drop, J: Journal> Shared<L, R, J> {
@@ -63,10 +68,12 @@ impl<L: BoardName, R: Wait + Drop, J: Journal> Shared<L, R, J> {
         ensures { IfOk result (λ shared. shared ≡ []) }
     {
         let record = Record::over(alloc, rt, kept, ledger, log, readers, rules)?;
-        Ok(Shared { record })
+        let stored = record.all.again();
+        Ok(Shared { record, stored })
     }
 
-    /// Takes an order of the seat's worker, counts it, and publishes it.
+    /// Takes an order of the seat's worker, counts it, and publishes it. Lines that wait are stored first, so that they
+    /// count as stored even if those of this order have to wait.
     pub(crate) fn hand_in(
         &mut self,
         seat: &mut Seat<L>,
@@ -80,12 +87,14 @@ impl<L: BoardName, R: Wait + Drop, J: Journal> Shared<L, R, J> {
         ensures all { OnOk result (history_of L.rules self.new ≡ seat.new.own) }
         ensures refused { OnErr result ((seat.new ≡ seat.old) × (tolds.new ≡ tolds.old) × (self.new ≡ self.old)) }
     {
+        self.store_all();
         self.record.take(seat, order, tolds)?;
         self.record.publish();
         Ok(())
     }
 
-    /// Takes orders of the seat's worker, one after another, and publishes them together.
+    /// Takes orders of the seat's worker, one after another, and publishes them together. Lines that wait are stored
+    /// first.
     pub(crate) fn hand_in_all(
         &mut self,
         seat: &mut Seat<L>,
@@ -101,6 +110,7 @@ impl<L: BoardName, R: Wait + Drop, J: Journal> Shared<L, R, J> {
         ensures some { OnOk result (0 < length orders.now → 0 < length lists.new.lists) }
         ensures refused { OnErr result (length lists.new.lists < length orders.now) }
     {
+        self.store_all();
         let taken = self.record.take_all(seat, orders, tolds, lists);
         self.record.publish();
         taken
@@ -143,7 +153,18 @@ impl<L: BoardName, R: Wait + Drop, J: Journal> Shared<L, R, J> {
         ensures same { self.new ≡ self.old }
         ensures stored { IsTrue result → IsStored J.stored seat.now.own }
     {
-        self.record.store() && seat.begins(&self.record.all)
+        self.store_all();
+        seat.is_in(&self.stored)
+    }
+
+    // Stores the desk's lines, if some wait that must be stored before replies leave.
+    #[tactic(auto, using(crate::proofs::Storing::same_stored))]
+    fn store_all(&mut self)
+        ensures { self.new ≡ self.old }
+    {
+        if !self.stored.is(&self.record.all) && self.record.store() {
+            self.stored = self.record.all.again();
+        }
     }
 
     /// Flushes the desk's journal: no order is at hand.
@@ -161,7 +182,10 @@ impl<L: BoardName, R: Wait + Drop, J: Journal> Shared<L, R, J> {
         ensures lawful { LeavesLawful L.rules (J.lines result) }
         ensures counted { orders_asked (J.lines result) ≡ whole.old.amount }
     {
-        let Shared { record } = self;
+        let Shared {
+            record,
+            stored: _stored,
+        } = self;
         record.into_kept(whole)
     }
 }

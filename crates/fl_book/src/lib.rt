@@ -6,7 +6,7 @@ pub use fl_board::{
     Board, BoardName, CloseFault, FreshLog, HandFault, LogName, NoView, OpenFault, Seat,
 };
 pub use fl_core::Rules;
-pub use fl_desk::{Desk, MOST_IN_ROW, ToldLists, Verdict, check, laws};
+pub use fl_desk::{Desk, MOST_IN_ROW, NothingOutgoing, ToldLists, Verdict, check, laws};
 pub use fl_history::{History, Journal, Line, Lines, NoJournal};
 pub use fl_judge::quiet;
 pub use fl_replica::Ask;

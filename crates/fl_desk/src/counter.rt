@@ -40,10 +40,12 @@ pub trait Counter {
 
     /// Takes orders one after another, and hands out a list of replies for each that it took: in `lists`, in the place
     /// of those before. `tolds` has room for the replies to one. It may end before it took all, but takes one at least,
-    /// or is refused. What is refused is the first order that has no list, and it changes nothing.
-    fn hand_in_all<R: Wait>(
+    /// or is refused. What is refused is the first order that has no list, and it changes nothing. Before it waits for
+    /// long it sends what is outgoing.
+    fn hand_in_all<R: Wait, O: Outgoing>(
         &self,
         rt: &R,
+        outgoing: &O,
         seat: &mut Self::Seat,
         orders: &[Order],
         tolds: &mut Tolds,
@@ -73,6 +75,20 @@ pub trait Counter {
 
     /// Flushes buffered output: a worker has no order at hand, and waits for one. It concerns no seat.
     fn pause<R: Wait>(&self, rt: &R);
+}
+
+/// Replies that were collected, to be sent together. No contract speaks of it.
+pub trait Outgoing {
+    /// Sends them.
+    fn send<R: Wait>(&self, rt: &R);
+}
+
+/// Nothing is outgoing.
+#[derive(Clone, Copy, Debug)]
+pub struct NothingOutgoing;
+
+impl Outgoing for NothingOutgoing {
+    fn send<R: Wait>(&self, _rt: &R) {}
 }
 
 /// A hook, called for each order that a worker took: before one of its row is handed in or looked for, and after each

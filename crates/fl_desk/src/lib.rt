@@ -15,7 +15,7 @@ mod judge;
 pub mod laws;
 mod told_lists;
 
-pub use counter::{Counter, Gate, OpenGate};
+pub use counter::{Counter, Gate, NothingOutgoing, OpenGate, Outgoing};
 pub use desk::Desk;
 pub use fault::{HandFault, NoView};
 pub use judge::{Verdict, check};

@@ -14,7 +14,7 @@ ghost use Rattle.fl_workers.specs.Worked.{HasDone, HasWorked, standing};
 use crate::entry::ReplyEntry;
 use crate::room::{ReplyRoom, RowRoom};
 use crate::sender::{SharedSender, WriterName};
-use fl_desk::{Counter, Gate, ToldLists};
+use fl_desk::{Counter, Gate, Outgoing, ToldLists};
 use fl_intake::{Intake, Job, TakeEnd};
 use fl_log::Appender;
 use fl_order::{Order, Told};
@@ -221,7 +221,7 @@ fn hand_in<R: Wait, C: Counter, G: Gate, W: Write, N: WriterName>(
 {
     let Post { seat, own } = post;
     let ReplyRoom { tolds, lists } = replies;
-    let result = counter.hand_in_all(rt, seat, orders, tolds, lists);
+    let result = counter.hand_in_all(rt, &Collected { sender }, seat, orders, tolds, lists);
     let handed = lists.count();
     let lost = give_lists(rt, gate, sender, own, lists);
     let failures = Failures {
@@ -374,6 +374,18 @@ fn collect<R: Wait, W: Write, N: WriterName>(
 {
     let mut sender = sender.lock(rt);
     !sender.collect(own, response)
+}
+
+// The replies that a session's workers have collected.
+#[derive(Drop)]
+struct Collected<'s, 'w, W: Write, N: WriterName> {
+    sender: &'s Mutex<SharedSender<'w, W, N>>,
+}
+
+impl<'s, 'w, W: Write, N: WriterName> Outgoing for Collected<'s, 'w, W, N> {
+    fn send<R: Wait>(&self, rt: &R) {
+        flush(rt, self.sender);
+    }
 }
 
 // Sends what is collected.

@@ -3,8 +3,10 @@
 //! can't be written, are contracts (`opened`, `when_full`). Contracts let through:
 //! - a `run` that runs another command than is asked for, or gives it other rules, flags or workers, or another path;
 //! - a `run` that gives `serve_on` another trace than `opened` made, or another word than `when_full` says;
-//! - an `opened` that makes its file at another path;
+//! - an `opened` or a `resume` whose file is at another path, or that is always refused; a `made` that writes over a
+//!   file that is there, or one of them that doesn't append;
 //! - a `remove_unused` that takes away the trace's file of a session that was served, or leaves one of none;
+//! - any line of `--verbose`, and one without that option;
 //! - a `main` that prints no refusal, or ends with another status;
 //! - a `hold_closed_streams` that holds none.
 //!
@@ -12,39 +14,31 @@
 //! `try_limits`.
 #![tactic(auto)]
 
-ghost use Rattle.std.specs.Prelude.{◌≡◌, ◌↔◌, Some, IfErr, IfOk, OnOk};
-ghost use Rattle.std.specs.Io.KnownBytes.{Keeps};
-ghost use Rattle.lockd.specs.Inside.{AsksFile, AsksRefusal, GoesWhere};
+ghost use Rattle.std.specs.Prelude.{IfOk};
 ghost use Rattle.lockd_cli.specs.Numbers.{HasWorkers};
-ghost use Rattle.lockd_serve.specs.Ending.{Ends};
 
-use descriptors::hold_closed_streams;
-use lockd_cli::{Asked, Trace, UsageError, WhenFull, WhenStuck, print_version, read_words};
-use lockd_commands::{
-    CheckOptions, CommandFault, LocksOptions, Status, bytes_on, check_on, drive_on, locks_on,
-    script_on,
-};
-use lockd_serve::{
-    ServeOptions, Telling, TraceTo, WhenUnwritten, WhenWriterFails, end_without_file, is_at,
-    is_unused, resume_on, serve_on, trace_at, trace_behind,
-};
-use std::fs::{File, Files};
-use std::io::{Stderr, Write};
+use lockd_cli::{Asked, CommandLine, UsageError, print_version, read_words};
+use lockd_commands::{CheckOptions, CommandFault, LocksOptions, Status};
+use reading::{bytes, check, drive, locks, script};
+use serving::{resume, serve};
+use std::fs::Files;
+use std::io::Write;
 use std::net::Net;
-use std::path::Path;
 use std::process::ExitCode;
 use std::sync::Wait;
 use std::thread::Threads;
-use std::{env, fs, io};
+use std::{env, io};
 
+mod bad_line;
 mod descriptors;
-
-// What writes a trace's file.
-type Written<'a> = Telling<'a, File, Stderr>;
+mod kept;
+mod reading;
+mod serving;
+mod words;
 
 fn main(rt: HostRuntime) -> ExitCode {
     match asked(&rt) {
-        Ok(asked) => ExitCode::from(run(&rt, &rt, &asked).exit_code()),
+        Ok(line) => ExitCode::from(run(&rt, &rt, &line).exit_code()),
         Err(refusal) => {
             let _ = rt.eprint(refusal);
             ExitCode::from(2)
@@ -52,8 +46,8 @@ fn main(rt: HostRuntime) -> ExitCode {
     }
 }
 
-fn asked(rt: &HostRuntime) -> Result<Asked, UsageError>
-    ensures workers { IfOk result HasWorkers }
+fn asked(rt: &HostRuntime) -> Result<CommandLine, UsageError>
+    ensures workers { IfOk result (λ line. HasWorkers line.asked) }
 {
     let words: Vec<String> = env::args(rt)?.collect(rt.alloc())?;
     read_words(rt.alloc(), words.as_slice())
@@ -63,29 +57,20 @@ fn asked(rt: &HostRuntime) -> Result<Asked, UsageError>
 fn run<T: Threads + Wait + Net + Files + Sync>(
     rt: &HostRuntime,
     threads: &T,
-    asked: &Asked,
+    line: &CommandLine,
 ) -> Status
-    requires workers { HasWorkers asked.now }
+    requires workers { HasWorkers line.now.asked }
 {
-    if matches!(
-        asked,
-        Asked::Serve { .. } | Asked::Resume { .. } | Asked::Drive(_)
-    ) {
-        hold_closed_streams(rt);
-    }
-    let alloc = rt.alloc();
-    let mut input = rt.reader();
-    let mut output = io::writer(rt);
-    let mut faults = rt.stderr();
-    match asked {
-        Asked::Script(rules) => script_on(alloc, *rules, &mut input, &mut output, &mut faults),
-        Asked::Bytes(rules) => bytes_on(alloc, *rules, &mut input, &mut output, &mut faults),
+    let verbose = line.verbose;
+    match &line.asked {
+        Asked::Script(rules) => script(rt, *rules, verbose),
+        Asked::Bytes(rules) => bytes(rt, *rules, verbose),
         Asked::Check { quiet, cut, rules } => {
             let options = CheckOptions {
                 tells_quiet: *quiet,
                 cut: *cut,
             };
-            check_on(alloc, *rules, options, &mut input, &mut output, &mut faults)
+            check(rt, *rules, options, verbose)
         }
         Asked::Locks {
             at,
@@ -98,141 +83,42 @@ fn run<T: Threads + Wait + Net + Files + Sync>(
                 file: file.as_ref().map(|name| name.as_bytes()),
                 json: *json,
             };
-            locks_on(alloc, *rules, options, &mut input, &mut output, &mut faults)
+            locks(rt, *rules, options, verbose)
         }
-        Asked::Version => version_on(&mut output, &mut faults),
         Asked::Serve {
             socket,
             workers,
             trace,
             rules,
-        } => {
-            let to = match opened(rt, trace, &mut faults) {
-                Ok(to) => to,
-                Err(status) => return status,
-            };
-            let options = ServeOptions {
-                workers: *workers,
-                rules: *rules,
-                trace: to,
-                when_full: when_full(trace),
-            };
-            let path = Path::new(socket.as_str());
-            let (status, written) = serve_on(
-                threads,
-                alloc,
-                path,
-                options,
-                &mut output,
-                &mut faults,
-            );
-            remove_unused(rt, trace, status);
-            end_traced(rt, trace, written, status, &mut faults)
-        }
+        } => serve(
+            rt,
+            threads,
+            socket.as_str(),
+            *workers,
+            trace,
+            *rules,
+            verbose,
+        ),
         Asked::Resume {
             socket,
             file,
             when_stuck,
             rules,
-        } => {
-            let trace = match trace_behind(rt, Path::new(file.as_str()), &mut faults) {
-                Ok(trace) => trace,
-                Err(status) => return status,
-            };
-            resume_on(
-                rt,
-                alloc,
-                Path::new(socket.as_str()),
-                *rules,
-                trace,
-                file.as_str(),
-                when_unwritten(*when_stuck),
-                &mut faults,
-                rt.stderr(),
-            )
-        }
-        Asked::Drive(socket) => {
-            let path = Path::new(socket.as_str());
-            drive_on(rt, alloc, path, &mut input, &mut output, &mut faults)
-        }
-    }
-}
-
-// Where the trace of `lockd serve` goes. Its file is made before the server listens.
-fn opened<'a, F: Write>(
-    rt: &HostRuntime,
-    trace: &'a Trace,
-    faults: &mut F,
-) -> Result<TraceTo<Written<'a>>, Status>
-    ensures trace { IfOk result (GoesWhere trace.now) }
-    ensures error { IfErr result (λ status. AsksFile trace.now × Ends (Some CommandFault.Trace) (record {
-      status = status;
-      told = F.contents faults.old;
-      told_now = F.contents faults.new;
-    })) }
-    ensures untold { OnOk result (Keeps (F.contents faults.old) (F.contents faults.new)) }
-{
-    match trace {
-        Trace::Printed => Ok(TraceTo::Output),
-        Trace::Nowhere => Ok(TraceTo::Nowhere),
-        Trace::File(file, _) => {
-            let made = trace_at(rt, Path::new(file.as_str()), faults)?;
-            // So that no other server goes on in it.
-            let _ = made.try_lock();
-            Ok(TraceTo::Writer(Telling::new(made, file.as_str(), rt.stderr())))
-        }
-    }
-}
-
-// Ends a server with this status. If its trace's file was removed or replaced, that is told.
-fn end_traced<F: Write>(
-    rt: &HostRuntime,
-    trace: &Trace,
-    written: Option<Written<'_>>,
-    status: Status,
-    faults: &mut F,
-) -> Status {
-    match (trace, &written) {
-        (Trace::File(file, _), Some(written))
-            if !is_at(rt, Path::new(file.as_str()), written.file()) => {
-            end_without_file(faults, status)
-        }
-        _ => status,
-    }
-}
-
-// Takes the trace's file away if no session was served.
-fn remove_unused(rt: &HostRuntime, trace: &Trace, status: Status) {
-    match trace {
-        Trace::File(file, _) if is_unused(status) => {
-            let _ = fs::remove_file(rt, Path::new(file.as_str()));
-        }
-        _ => {}
-    }
-}
-
-// What happens to orders when the trace's file can't be written.
-fn when_full(trace: &Trace) -> WhenWriterFails
-    ensures { result ≡ WhenWriterFails.Refuse ↔ AsksRefusal trace.now }
-{
-    match trace {
-        Trace::File(_, WhenFull::Refuse) => WhenWriterFails::Refuse,
-        Trace::File(_, WhenFull::GoOn) | Trace::Printed | Trace::Nowhere => WhenWriterFails::GoOn,
-    }
-}
-
-// What a server does that goes on behind a trace, while the trace's file can't be written.
-fn when_unwritten(said: WhenStuck) -> WhenUnwritten
-    ensures { result ≡ WhenUnwritten.End ↔ said ≡ WhenStuck.End }
-{
-    match said {
-        WhenStuck::Wait => WhenUnwritten::Wait,
-        WhenStuck::End => WhenUnwritten::End,
+        } => resume(
+            rt,
+            socket.as_str(),
+            file.as_str(),
+            *when_stuck,
+            *rules,
+            verbose,
+        ),
+        Asked::Drive(socket) => drive(rt, socket.as_str(), verbose),
+        Asked::Version => version(&mut io::writer(rt), &mut rt.stderr()),
     }
 }
 
 // `lockd --version`: writes the line that says the version.
-fn version_on<W: Write, F: Write>(output: &mut W, faults: &mut F) -> Status {
+fn version<W: Write, F: Write>(output: &mut W, faults: &mut F) -> Status {
     match print_version(output) {
         Ok(()) => Status::Good,
         Err(_) => {

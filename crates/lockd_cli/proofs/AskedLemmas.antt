@@ -31,3 +31,14 @@ pub asked_so : {E : Type 0} (matches : ArgMatches) (name : Text) (found : Found)
     → IsSaid matches name found → IfOk r (λ it. word_of it ≡ name) → IfOk r (Ask found) → IfOk r (AsksFor matches)
 asked_so matches name found (Ok it) said word ask = inl (found, rw word said, ask)
 asked_so matches name found (Err e) said word ask = tt
+
+said_under : (o : Option (Text × List Row)) (rows : List Row) → Some rows ≡ option_map (λ (p : Text × List Row). p.1) o
+    → (name : Text) × (o ≡ Some (name, rows))
+said_under None rows has = absurd (cc has)
+said_under (Some (name, own)) rows has = (name, cc)
+
+-- some command was said, if there are rows of one
+pub some_said : (matches : ArgMatches) (found : Found)
+    → Some (rows_of found) ≡ option_map (λ (p : Text × List Row). p.1) (subcommand_rows_of matches)
+    → (name : Text) × IsSaid matches name found
+some_said matches found = said_under (subcommand_rows_of matches) (rows_of found)

@@ -152,3 +152,10 @@ abbrev pub AsksFor : ArgMatches → Asked → Type 0
 AsksFor matches it =
     ((found : Found) × IsSaid matches (word_of it) found × Ask found it)
     ⊎ (SaysNone (subcommand_name_of matches) × (word_of it ≡ codes "script") × Ask (found_of matches) it)
+
+-- These options ask for more lines on standard error, or don't: those of the command that was said, or those that stand
+-- alone, if none was.
+abbrev pub AsksMore : ArgMatches → Bool → Type 0
+AsksMore matches verbose =
+    ((name : Text) × (found : Found) × IsSaid matches name found × IsFlagOf (one_text found (codes "verbose")) verbose)
+    ⊎ ((subcommand_name_of matches ≡ None) × IsFlagOf (one_text (found_of matches) (codes "verbose")) verbose)

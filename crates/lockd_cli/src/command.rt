@@ -96,7 +96,17 @@ fn drive<'a>(alloc: Global) -> Result<Command<'a>, Error> {
     let drive = Command::new(alloc, "drive").about(
         "Sends the lines of hex on standard input to a server, and prints its replies: `recv N` waits for N",
     );
-    Ok(drive.arg(socket(alloc))?)
+    with_verbose(alloc, drive.arg(socket(alloc))?)
+}
+
+// A command with the option that asks for more lines.
+fn with_verbose<'a>(alloc: Global, command: Command<'a>) -> Result<Command<'a>, Error> {
+    let verbose = flag(
+        alloc,
+        "verbose",
+        "Says more on standard error: behind a fault its reason and what to do, how much was read, and what a server does",
+    );
+    Ok(command.arg(verbose.short('v'))?)
 }
 
 // A command with the options that say where its trace goes.
@@ -134,7 +144,7 @@ fn when_full<'a>(alloc: Global) -> Arg<'a> {
         .long("trace-full")
         .value_name("WORD")
         .help(
-            "What happens while the trace's file can't be written. With --trace FILE orders go on without it, if not said, or are refused. With --resume FILE clients wait, if not said, or the session ends",
+            "What happens while the trace's file can't be written. With --trace FILE orders go on without it, if not said; refuse has replies wait until their lines are in the file, and refuses what can't be taken meanwhile. With --resume FILE clients wait, if not said, or the session ends",
         )
         .action(ArgAction::Set)
         .value_parser(WHEN_FULL)
@@ -148,7 +158,7 @@ fn with_rules<'a>(alloc: Global, command: Command<'a>) -> Result<Command<'a>, Er
         "Lets a request for a record lock wait behind an older one that waits and excludes it",
     );
     let command = with_locks(alloc, command.arg(fair)?)?;
-    with_files(alloc, command)
+    with_verbose(alloc, with_files(alloc, command)?)
 }
 
 // A command with the options that say how many locks and parked requests there may be.

@@ -2,16 +2,18 @@
 //!
 //! A server has 1 to 16 workers (`workers`), and `Rules` keeps the other limits in its type. A private contract,
 //! `asked_by`, says what is asked for by the command and the texts that `clap` found: the socket, the workers, the
-//! trace, the file of `--resume`, `--trace-full`, `--quiet`, `--cut` and the rules. Another, `serve_of`, says when the
-//! word of `--trace-full` doesn't fit the trace. `read_words` repeats neither. `clap` doesn't state which words it takes
-//! for which text, if options and commands exclude each other, as they do here. Contracts let through:
+//! trace, the file of `--resume`, `--trace-full`, `--quiet`, `--cut` and the rules. `is_verbose` says the same of
+//! `--verbose`, and `serve_of` when the word of `--trace-full` doesn't fit the trace. `read_words` repeats none of them.
+//! `clap` doesn't state which words it takes for which text, if options and commands exclude each other, as they do
+//! here. Contracts let through:
 //! - a `print_version` that always fails, and another version;
-//! - a `read_words` that refuses everything, or doesn't ask `asked_by`;
+//! - a `read_words` that refuses everything, or doesn't ask `line_of`;
 //! - a `command` with an option that has another name, another range, another default, or none of them;
 //! - a `command` that lets words through that no command takes, as `--resume` beside `--trace`.
 //!
 //! These tests refuse most of them:
-//! - words that are refused, `--resume`, `--quiet`, `--cut`, and rules: `tools/try_words` and `tools/try_commands`;
+//! - words that are refused, `--resume`, `--quiet`, `--cut`, `--verbose`, and rules: `tools/try_words` and
+//!   `tools/try_commands`;
 //! - the number of workers: `try_the_number_of_threads` of `tools/try_ends`;
 //! - the socket: `tools/try_sockets`;
 //! - `--trace` and `--trace-full`: `tools/try_traces`.
@@ -24,6 +26,6 @@ mod options;
 mod usage_error;
 mod version;
 
-pub use options::{Asked, Trace, WhenFull, WhenStuck, read_words};
+pub use options::{Asked, CommandLine, Trace, WhenFull, WhenStuck, read_words};
 pub use usage_error::UsageError;
 pub use version::{VERSION, print_version};

@@ -5,7 +5,7 @@ ghost use Rattle.std.specs.String.{string_bytes};
 ghost use Rattle.clap.specs.Matches.{found_of, one_text};
 ghost use Rattle.clap.specs.Words.{first_value};
 ghost use Rattle.fl_waiting.specs.Limits.{AllowsRuns, AllowsParked, AllowsFiles, AllowsOpen};
-ghost use Rattle.lockd_cli.specs.Inside.{Ask, AsksFor, IsNotForResume, IsNotForTrace, Misfits, MisfitsTrace};
+ghost use Rattle.lockd_cli.specs.Inside.{Ask, AsksFor, AsksMore, IsNotForResume, IsNotForTrace, Misfits, MisfitsTrace};
 ghost use Rattle.lockd_cli.specs.Inside.{SayRules, SaysNoFull, SaysTrace, SaysWhenFull, SaysWhenStuck, Spells};
 ghost use Rattle.lockd_cli.specs.Inside.{socket_said, word_of};
 ghost use Rattle.lockd_cli.specs.Numbers.{HasWorkers};
@@ -22,6 +22,15 @@ pub(crate) const MOST_WORKERS: u32 = 16;
 
 // Its workers if none are said.
 const STANDARD_WORKERS: u32 = 4;
+
+/// A command line.
+#[derive(Drop)]
+pub struct CommandLine {
+    /// What it asks for.
+    pub asked: Asked,
+    /// Whether it asks for more lines on standard error.
+    pub verbose: bool,
+}
 
 /// What a command line asks for.
 #[derive(Drop)]
@@ -110,13 +119,39 @@ pub enum WhenStuck {
 
 /// What the words of a command line ask for; the first is the program's name. A word that no command takes, a number
 /// out of its option's range, a request for help, and running out of memory, are refused, each with its text.
-pub fn read_words(alloc: Global, words: &[String]) -> Result<Asked, UsageError>
-    ensures workers { IfOk result HasWorkers }
+pub fn read_words(alloc: Global, words: &[String]) -> Result<CommandLine, UsageError>
+    ensures workers { IfOk result (λ line. HasWorkers line.asked) }
 {
     match lockd(alloc)?.try_get_matches_from(words) {
-        Ok(matches) => asked_by(alloc, &matches),
-        Err(error) if error.kind() == ErrorKind::DisplayVersion => Ok(Asked::Version),
+        Ok(matches) => line_of(alloc, &matches),
+        Err(error) if error.kind() == ErrorKind::DisplayVersion => Ok(CommandLine {
+            asked: Asked::Version,
+            verbose: false,
+        }),
         Err(error) => Err(UsageError::from(error)),
+    }
+}
+
+// The command line of words that `clap` took.
+fn line_of(alloc: Global, matches: &ArgMatches<'_>) -> Result<CommandLine, UsageError>
+    ensures workers { IfOk result (λ line. HasWorkers line.asked) }
+    ensures said { IfOk result (λ line. AsksFor matches.now line.asked) }
+    ensures more { IfOk result (λ line. AsksMore matches.now line.verbose) }
+{
+    let asked = asked_by(alloc, matches)?;
+    Ok(CommandLine {
+        asked,
+        verbose: is_verbose(matches),
+    })
+}
+
+// Whether these words ask for more lines.
+fn is_verbose(matches: &ArgMatches<'_>) -> bool
+    ensures { AsksMore matches.now result }
+{
+    match matches.subcommand() {
+        Some((_, options)) => options.get_flag("verbose"),
+        None => matches.get_flag("verbose"),
     }
 }
 

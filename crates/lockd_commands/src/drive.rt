@@ -15,6 +15,7 @@ use crate::exchange::drive_over;
 use crate::reply::MOST_BYTES;
 use lockd_faults::{CommandFault, Status, end, read_all};
 use std::alloc::Global;
+use std::io;
 use std::io::{Read, Write};
 use std::net::{Net, Shutdown};
 use std::os::unix::net::UnixStream;
@@ -23,7 +24,8 @@ use std::path::Path;
 /// `lockd drive`: connects to the Unix stream socket at a path, and does what each line of the input says, in turn. A
 /// line of hex is sent as it is; `recv N`, N from 1 to 1000, waits for N replies and writes each as a line of lower
 /// case hex. Then it closes. All input is read and checked before it connects. A fault is one line on
-/// `faults`. There is no connection at an empty path. Nothing is read between two `recv`: a server that waits until its
+/// `faults`. There is no connection at an empty path; if the system refuses one, `unconnected` gets the reason.
+/// Nothing is read between two `recv`: a server that waits until its
 /// replies are read may keep a long row of other lines waiting for ever.
 pub fn drive_on<N: Net, R: Read, W: Write, F: Write>(
     net: &N,
@@ -32,6 +34,7 @@ pub fn drive_on<N: Net, R: Read, W: Write, F: Write>(
     input: &mut R,
     output: &mut W,
     faults: &mut F,
+    unconnected: &mut Option<io::Error>,
 ) -> Status
     ensures good { result ≡ Status.Good →
         IsDriven (R.remaining input.old) (W.contents output.old) (W.contents output.new) }
@@ -63,7 +66,7 @@ pub fn drive_on<N: Net, R: Read, W: Write, F: Write>(
     ensures quiet { result ≡ Status.Good → Keeps (F.contents faults.old) (F.contents faults.new) }
     ensures ended { result ≢ Status.Different }
 {
-    end(faults, drive(net, alloc, path, input, output))
+    end(faults, drive(net, alloc, path, input, output, unconnected))
 }
 
 fn drive<N: Net, R: Read, W: Write>(
@@ -72,6 +75,7 @@ fn drive<N: Net, R: Read, W: Write>(
     path: Path<'_>,
     input: &mut R,
     output: &mut W,
+    unconnected: &mut Option<io::Error>,
 ) -> Result<(), CommandFault>
     ensures did { Did (R.remaining input.old) (W.contents output.old) (W.contents output.new) result }
     ensures begun { IfErr result (λ _. Keeps (W.contents output.old) (W.contents output.new)
@@ -81,7 +85,7 @@ fn drive<N: Net, R: Read, W: Write>(
     let text = read_all(alloc, input)?;
     let actions = read_actions(alloc, &text)?;
     let mut room = vec![in alloc; 0; MOST_BYTES]?;
-    let stream = connect(net, path)?;
+    let stream = connect(net, path, unconnected)?;
     drive_over(
         alloc,
         &actions,
@@ -94,13 +98,23 @@ fn drive<N: Net, R: Read, W: Write>(
     Ok(())
 }
 
-// A connection to the socket at this path.
-fn connect<N: Net>(net: &N, path: Path<'_>) -> Result<UnixStream, CommandFault>
+// A connection to the socket at this path. If the system refuses it, `unconnected` gets the reason.
+fn connect<N: Net>(
+    net: &N,
+    path: Path<'_>,
+    unconnected: &mut Option<io::Error>,
+) -> Result<UnixStream, CommandFault>
     ensures error { IfErr result (λ fault. fault ≡ CommandFault.Connect) }
     ensures unnamed { path_bytes path.entry ≡ [] → result ≡ Err CommandFault.Connect }
 {
     if path.as_str().is_empty() {
         return Err(CommandFault::Connect);
     }
-    UnixStream::connect(net, path).map_err(|_| CommandFault::Connect)
+    match UnixStream::connect(net, path) {
+        Ok(stream) => Ok(stream),
+        Err(why) => {
+            *unconnected = Some(why);
+            Err(CommandFault::Connect)
+        }
+    }
 }

@@ -7,3 +7,4 @@ mod outputs;
 mod pieces;
 mod scripts;
 mod streams;
+mod watching;

@@ -10,10 +10,46 @@ ghost use Rattle.lockd_faults.specs.declared.fault.CommandFault.{CommandFault};
 ghost use Rattle.lockd_serve.specs.Behind.{EndsBehind};
 ghost use Rattle.lockd_serve.specs.Ending.{Ends, EndsUntraced, Prints, Traces, has_history, told_of};
 
+use crate::observer::{Observer, Untraced};
 use fl_serve::{Done, Fault, Recorded};
 use fl_stream::{Streamed, TraceRoom};
 use lockd_faults::{CommandFault, Status, end, print, tell};
+use std::io;
 use std::io::Write;
+
+/// Ends a server to which no connection came: tells that, and the observer why.
+pub(crate) fn end_unheard<F: Write, O: Observer>(
+    faults: &mut F,
+    observer: &mut O,
+    why: io::Error,
+) -> Status
+    ensures { Ends (Some CommandFault.Listen) (record {
+      status = result;
+      told = F.contents faults.old;
+      told_now = F.contents faults.new;
+    }) }
+{
+    let status = end(faults, Err(CommandFault::Listen));
+    observer.unheard(why);
+    status
+}
+
+/// Ends a server that has no file for its trace: tells that, and the observer why.
+pub fn end_unopened<F: Write, O: Observer>(
+    faults: &mut F,
+    observer: &mut O,
+    why: Untraced,
+) -> Status
+    ensures { Ends (Some CommandFault.Trace) (record {
+      status = result;
+      told = F.contents faults.old;
+      told_now = F.contents faults.new;
+    }) }
+{
+    let status = end(faults, Err(CommandFault::Trace));
+    observer.untraced(why);
+    status
+}
 
 /// Prints the trace of a session, and then tells its fault. If the output can't be written, that alone is told.
 pub(crate) fn end_printed<W: Write, F: Write>(

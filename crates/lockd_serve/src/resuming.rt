@@ -10,7 +10,9 @@ ghost use Rattle.lockd_serve.specs.Behind.{AreLinesOf, FileSays, ServesBehind, S
 ghost use Rattle.lockd_serve.specs.Ending.{Ending};
 ghost use Rattle.lockd_serve.specs.Inside.{DiffersBy, told_of_reading};
 
-use crate::ending::end_resumed;
+use crate::ending::{end_resumed, end_unheard, end_unopened};
+use crate::noting::Noting;
+use crate::observer::{Observer, Untraced};
 use crate::retrying::{Retrying, Telling, WhenUnwritten};
 use crate::serving::hang_up;
 use crate::socket::{OldSocket, connection};
@@ -23,7 +25,8 @@ use fl_judge::{AuditFault, Heard, Judge, Resumed, hear_cut};
 use fl_resume::resume;
 use lockd_faults::{CommandFault, Status, end};
 use std::alloc::Global;
-use std::fs::{File, Files, OpenFile};
+use std::fs::{File, Files, OpenFile, TryLockError};
+use std::io;
 use std::io::{Read, Write};
 use std::net::Net;
 use std::path::Path;
@@ -38,8 +41,9 @@ use std::time::Clock;
 /// lines of each order are written before any of its replies leaves. While a write fails, `when` says what happens, and
 /// `notices` gets a line of it. If no legal history begins with the file's lines, it stays as it is, `faults` gets `bad
 /// line` or `differs` with the line's number, and nobody is served. A fault of the session is one line on `faults`, and
-/// behind it `trace failed` if the file lacks lines, or is gone.
-pub fn resume_on<R: Net + Files + Clock, F: Write, N: Write + Drop>(
+/// behind it `trace failed` if the file lacks lines, or is gone. The observer is told what the server does, and after
+/// `cannot listen` and `cannot trace` why it serves nobody.
+pub fn resume_on<R: Net + Files + Clock, F: Write, N: Write + Drop, O: Observer>(
     rt: &R,
     alloc: Global,
     path: Path<'_>,
@@ -49,6 +53,7 @@ pub fn resume_on<R: Net + Files + Clock, F: Write, N: Write + Drop>(
     when: WhenUnwritten,
     faults: &mut F,
     notices: N,
+    observer: &mut O,
 ) -> Status
     // Behind some lines: no clause ties them to the file, of whose bytes contracts see nothing.
     ensures over { let it : Ending = record {
@@ -62,35 +67,62 @@ pub fn resume_on<R: Net + Files + Clock, F: Write, N: Write + Drop>(
       told_now = F.contents faults.new;
     }) }
 {
-    if file.try_lock().is_err() || !is_at(rt, Path::new(name), &file) {
-        return end(faults, Err(CommandFault::Trace));
+    if let Some(why) = untakable(rt, &file, name) {
+        return end_unopened(faults, observer, why);
     }
-    let (resumed, recent) = match resumed_from(alloc, rules, &mut file) {
+    let mut uncut = None;
+    let (resumed, recent) = match resumed_from(alloc, rules, &mut file, &mut uncut) {
         Ok(found) => found,
+        Err(CommandFault::Trace) => return end_unopened(faults, observer, unfit(uncut)),
         Err(fault) => return end(faults, Err(fault)),
     };
-    let stream = match connection(rt, alloc, path, OldSocket::Replace) {
+    observer.resumed();
+    let stream = match connection(rt, alloc, path, OldSocket::Replace, observer) {
         Ok(stream) => stream,
-        Err(fault) => return end(faults, Err(fault)),
+        Err(why) => return end_unheard(faults, observer, why),
     };
     let mut r = Spinning::new(&stream, &stream);
-    let mut w = Patient::new(&stream, &stream);
+    let mut w = Noting::new(Patient::new(&stream, &stream));
     let file = Retrying::new(Telling::new(file, name, notices), rt, when);
     let Ok(ended) = resume(alloc, &mut r, &mut w, resumed, recent, file, rules) else {
         return end(faults, Err(CommandFault::NoMemory));
     };
     hang_up(&stream);
-    let whole = ended.whole && is_at(rt, Path::new(name), ended.file.writer().file());
-    end_resumed(faults, ended.fault, whole)
+    let there = is_at(rt, Path::new(name), ended.file.writer().file());
+    let status = end_resumed(faults, ended.fault, ended.whole && there);
+    observer.ended(r.client(), w.failed());
+    if !there {
+        observer.lost();
+    }
+    status
+}
+
+// Why a server can't take a file of this name, if it can't. It is locked, if it can.
+fn untakable<R: Files>(rt: &R, file: &File, name: &str) -> Option<Untraced> {
+    match file.try_lock() {
+        Err(TryLockError::WouldBlock) => Some(Untraced::Taken),
+        Err(TryLockError::Error(why)) => Some(Untraced::Unlocked(why)),
+        Ok(()) if !is_at(rt, Path::new(name), file) => Some(Untraced::Gone),
+        Ok(()) => None,
+    }
+}
+
+// Why no server goes on behind a file that can be read. It can't be cut off for this reason, if there is one.
+fn unfit(uncut: Option<io::Error>) -> Untraced {
+    match uncut {
+        Some(why) => Untraced::Uncut(why),
+        None => Untraced::Irregular,
+    }
 }
 
 /// What a server goes on from behind the lines of a trace's file, under these rules, and the last of these lines. Nothing
 /// was read of the file yet. What follows its last newline is cut off, once its lines are known to begin a legal history.
-/// The fault is `Trace` if it is no regular file, or can't be cut.
+/// The fault is `Trace` if it is no regular file, or can't be cut off, and then `uncut` gets the reason.
 pub fn resumed_from<T: Read + OpenFile>(
     alloc: Global,
     rules: Rules,
     file: &mut T,
+    uncut: &mut Option<io::Error>,
 ) -> Result<(Resumed, Recent), CommandFault>
     ensures lines { IfOk result (λ r. IsSoOfAll (T.remaining file.old) (λ text. AreLinesOf text r.0.past.items)) }
     ensures recent { IfOk result (λ r. r.1 ≡ r.0.past.items) }
@@ -117,7 +149,10 @@ pub fn resumed_from<T: Read + OpenFile>(
     };
     match file.set_len(bytes) {
         Ok(()) => Ok((resumed, recent)),
-        Err(_) => Err(CommandFault::Trace),
+        Err(why) => {
+            *uncut = Some(why);
+            Err(CommandFault::Trace)
+        }
     }
 }
 

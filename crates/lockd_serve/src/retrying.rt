@@ -10,13 +10,13 @@ use std::time::{Clock, Duration};
 // How many milliseconds it is until a write is tried again.
 const PAUSE: u64 = 100;
 
-/// Writes to a file, and tells the first of writes that fail, and the first that succeeds behind it.
+/// Writes to a file, and tells the first of writes that fail, and the first behind it that takes all bytes that wait.
 #[derive(Drop)]
 pub struct Telling<'a, T, N> {
     file: T,
     name: &'a str,
     notices: N,
-    // The last write failed.
+    // A write failed, and none took all bytes after it.
     failed: bool,
 }
 
@@ -40,7 +40,7 @@ impl<'a, T: Write, N: Write> Telling<'a, T, N> {
         &self.file
     }
 
-    // Tells that a write failed, if the one before didn't.
+    // Tells that a write failed, if that isn't told yet.
     fn tell_failed(&mut self, error: &io::Error)
         ensures { self.new.file ≡ self.old.file }
     {
@@ -50,7 +50,7 @@ impl<'a, T: Write, N: Write> Telling<'a, T, N> {
         }
     }
 
-    // Tells that a write succeeded, if the one before failed.
+    // Tells that all is written, if one failed before.
     fn tell_over(&mut self)
         ensures { self.new.file ≡ self.old.file }
     {
@@ -67,7 +67,8 @@ impl<T: Write, N: Write> Write for Telling<'_, T, N> {
     fn write(&mut self, buf: &[u8]) -> io::Result<usize> {
         let written = self.file.write(buf);
         match &written {
-            Ok(_) => self.tell_over(),
+            Ok(count) if *count > 0 && *count == buf.len() => self.tell_over(),
+            Ok(_) => {}
             Err(error) if error.kind() == ErrorKind::Interrupted => {}
             Err(error) => self.tell_failed(error),
         }

@@ -9,11 +9,14 @@ ghost use Rattle.lockd_serve.specs.Ending.{IsOver, WentWell};
 ghost use Rattle.lockd_serve.specs.declared.options.TraceTo.{TraceTo};
 ghost use Rattle.lockd_serve.specs.Unserved.{LeavesNothing, ServesNobody};
 
+use crate::ending::end_unheard;
+use crate::noting::Noting;
+use crate::observer::Observer;
 use crate::options::ServeOptions;
 use crate::serving::serve_stream;
 use crate::socket::{OldSocket, connection};
 use crate::spinning::{Patient, Spinning};
-use lockd_faults::{CommandFault, Status, end};
+use lockd_faults::Status;
 use std::alloc::Global;
 use std::fs::Files;
 use std::io::Write;
@@ -30,14 +33,21 @@ use std::thread::Threads;
 /// trace that goes nowhere or to a writer nothing is printed. A writer gets the trace as orders come. If it can't be
 /// written, orders go on without a trace or are refused, as `when_full` says. At the end `faults` gets `trace failed`,
 /// after a fault of the session if there is one. The writer comes back if the session has a history, with the text of a
-/// beginning of its history.
-pub fn serve_on<R: Threads + Wait + Net + Files + Sync, T: Write + Send + Drop, W: Write, F: Write>(
+/// beginning of its history. The observer is told what the server does, and after a fault why it serves nobody.
+pub fn serve_on<
+    R: Threads + Wait + Net + Files + Sync,
+    T: Write + Send + Drop,
+    W: Write,
+    F: Write,
+    O: Observer,
+>(
     rt: &R,
     alloc: Global,
     path: Path<'_>,
     options: ServeOptions<T>,
     output: &mut W,
     faults: &mut F,
+    observer: &mut O,
 ) -> (Status, Option<T>)
     requires workers { (0 < options.workers) × (options.workers ≤ 16) }
     requires blank { (writer : T) → options.trace ≡ TraceTo.Writer writer → IsBlank (T.contents writer) }
@@ -62,12 +72,14 @@ pub fn serve_on<R: Threads + Wait + Net + Files + Sync, T: Write + Send + Drop, 
     ensures untraced { ServesNobody result.0 → result.1 ≡ None }
     ensures unnamed { path_bytes path.entry ≡ [] → result.0 ≡ Status.Faulted CommandFault.Listen }
 {
-    let stream = match connection(rt, alloc, path, OldSocket::Keep) {
+    let stream = match connection(rt, alloc, path, OldSocket::Keep, observer) {
         Ok(stream) => stream,
-        Err(fault) => return (end(faults, Err(fault)), None),
+        Err(why) => return (end_unheard(faults, observer, why), None),
     };
     let mut r = Spinning::new(&stream, &stream);
-    let mut w = Patient::new(&stream, &stream);
+    let mut w = Noting::new(Patient::new(&stream, &stream));
     let socket = Some(&stream);
-    serve_stream(rt, alloc, &mut r, &mut w, options, socket, output, faults)
+    let served = serve_stream(rt, alloc, &mut r, &mut w, options, socket, output, faults);
+    observer.ended(r.client(), w.failed());
+    served
 }

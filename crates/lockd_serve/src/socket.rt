@@ -1,19 +1,19 @@
 //! The socket that `lockd serve` listens at.
 
-ghost use Rattle.std.specs.Prelude.{◌≡◌, ◌↔◌, [], Err, IfErr, IsTrue};
+ghost use Rattle.std.specs.Prelude.{◌≡◌, ◌↔◌, [], IsErr, IsTrue};
 ghost use Rattle.std.specs.Path.{path_bytes};
-ghost use Rattle.lockd_faults.specs.declared.fault.CommandFault.{CommandFault};
 ghost use Rattle.lockd_serve.specs.Inside.{IsSameSocket};
 
-use lockd_faults::{CommandFault, read_all, split_line};
+use crate::observer::Observer;
+use lockd_faults::{read_all, split_line};
 use std::alloc::Global;
-use std::fs;
 use std::fs::{Files, OpenOptions};
 use std::io::ErrorKind;
 use std::net::Net;
 use std::os::unix::fs::{FileTypeExt, MetadataExt};
 use std::os::unix::net::{UnixListener, UnixStream};
 use std::path::Path;
+use std::{fs, io};
 
 /// What is done with a socket's file that stands at the path of a server.
 #[derive(Clone, Copy, PartialEq, Eq)]
@@ -25,27 +25,29 @@ pub(crate) enum OldSocket {
 }
 
 /// The first connection at a path, whose file is then taken away. A socket with no path has no file, and nobody finds
-/// it.
-pub(crate) fn connection<R: Net + Files>(
+/// it. The observer is told when it listens, and when the connection is there.
+pub(crate) fn connection<R: Net + Files, O: Observer>(
     rt: &R,
     alloc: Global,
     path: Path<'_>,
     old: OldSocket,
-) -> Result<UnixStream, CommandFault>
-    ensures error { IfErr result (λ fault. fault ≡ CommandFault.Listen) }
-    ensures unnamed { path_bytes path.entry ≡ [] → result ≡ Err CommandFault.Listen }
+    observer: &mut O,
+) -> io::Result<UnixStream>
+    ensures unnamed { path_bytes path.entry ≡ [] → IsErr result }
 {
     if path.as_str().is_empty() {
-        return Err(CommandFault::Listen);
+        return Err(io::Error::from(ErrorKind::InvalidInput));
     }
     if old == OldSocket::Replace {
         remove_stale(rt, alloc, path);
     }
-    let listener = UnixListener::bind(rt, path).map_err(|_| CommandFault::Listen)?;
+    let listener = UnixListener::bind(rt, path)?;
     let made = file_at(rt, path);
-    let accepted = listener.accept().map_err(|_| CommandFault::Listen);
+    observer.listening();
+    let accepted = listener.accept();
     remove_socket(rt, path, made);
     let (stream, _) = accepted?;
+    observer.connected();
     Ok(stream)
 }
 

@@ -5,6 +5,7 @@ ghost use Rattle.std.specs.Io.{ReadsAtMost};
 ghost use Rattle.std.specs.Io.KnownBytes.{Keeps, ReadConsumes};
 ghost use Rattle.lockd_serve.specs.Inside.{WouldWait};
 
+use crate::observer::Parting;
 use std::io;
 use std::io::{ErrorKind, Read, Write};
 use std::os::unix::net::UnixStream;
@@ -30,6 +31,8 @@ pub(crate) struct Spinning<'a, R> {
     socket: &'a UnixStream,
     // How many reads come before the next spin.
     without_spin: u32,
+    // What the last read said of the client.
+    client: Parting,
 }
 
 impl<'a, R: Read> Spinning<'a, R> {
@@ -41,7 +44,13 @@ impl<'a, R: Read> Spinning<'a, R> {
             stream,
             socket,
             without_spin: 0,
+            client: Parting::Here,
         }
+    }
+
+    /// What the last read said of the client.
+    pub(crate) fn client(&self) -> Parting {
+        self.client
     }
 
     // What a spin reads; none if it found nothing, or if it isn't time for one.
@@ -72,10 +81,12 @@ impl<R: Read> Read for Spinning<'_, R> {
     ghost remaining = { λ l. R.remaining l.stream };
 
     fn read(&mut self, buf: &mut [u8]) -> io::Result<usize> {
-        match self.spin(buf) {
+        let read = match self.spin(buf) {
             Some(read) => read,
             None => self.stream.read(buf),
-        }
+        };
+        self.client = parting(&read);
+        read
     }
 }
 
@@ -131,6 +142,15 @@ fn read_soon<R: Read>(stream: &mut R, buf: &mut [u8]) -> Option<io::Result<usize
         }
     }
     None
+}
+
+// What a read says of the client. None asks for no bytes.
+fn parting(read: &io::Result<usize>) -> Parting {
+    match read {
+        Ok(0) => Parting::Closed,
+        Ok(_) => Parting::Here,
+        Err(error) => Parting::Unread(error.kind()),
+    }
 }
 
 // Whether a read or a write says no more than that it would wait.

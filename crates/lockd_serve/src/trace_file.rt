@@ -1,65 +1,16 @@
 //! The file of a trace.
 
-ghost use Rattle.std.specs.Prelude.{◌≡◌, ◌≢◌, IfErr, OnOk};
+ghost use Rattle.std.specs.Prelude.{◌≡◌, ◌≢◌};
 ghost use Rattle.std.specs.Io.KnownBytes.{Keeps};
 ghost use Rattle.lockd_faults.specs.Faults.{IsTold};
 ghost use Rattle.lockd_faults.specs.declared.fault.CommandFault.{CommandFault};
 
 use lockd_faults::{CommandFault, Status, end, tell};
-use std::fs::{Files, OpenFile, OpenOptions};
+use std::fs;
+use std::fs::{Files, OpenFile};
 use std::io::Write;
 use std::os::unix::fs::MetadataExt;
 use std::path::Path;
-use std::{fs, io};
-
-/// A new file for a trace at a path. If a file is there already, or none can be made, `faults` gets `cannot trace`.
-pub fn trace_at<R: Files, F: Write>(
-    rt: &R,
-    path: Path<'_>,
-    faults: &mut F,
-) -> Result<R::File, Status>
-    ensures told { IfErr result (λ status. (status ≡ Status.Faulted CommandFault.Trace)
-        × IsTold CommandFault.Trace (F.contents faults.old) (F.contents faults.new)) }
-    ensures untold { OnOk result (Keeps (F.contents faults.old) (F.contents faults.new)) }
-{
-    opened(
-        OpenOptions::new()
-            .append(true)
-            .create_new(true)
-            .open(rt, path),
-        faults,
-    )
-}
-
-/// The file of a trace at a path, which is made if there is none. What is written goes behind what it has. If it can't be
-/// opened, `faults` gets `cannot trace`.
-pub fn trace_behind<R: Files, F: Write>(
-    rt: &R,
-    path: Path<'_>,
-    faults: &mut F,
-) -> Result<R::File, Status>
-    ensures told { IfErr result (λ status. (status ≡ Status.Faulted CommandFault.Trace)
-        × IsTold CommandFault.Trace (F.contents faults.old) (F.contents faults.new)) }
-    ensures untold { OnOk result (Keeps (F.contents faults.old) (F.contents faults.new)) }
-{
-    let mut options = OpenOptions::new();
-    opened(
-        options.read(true).append(true).create(true).open(rt, path),
-        faults,
-    )
-}
-
-// What was opened for a trace. If that failed, `faults` gets `cannot trace`.
-fn opened<T, F: Write>(file: io::Result<T>, faults: &mut F) -> Result<T, Status>
-    ensures told { IfErr result (λ status. (status ≡ Status.Faulted CommandFault.Trace)
-        × IsTold CommandFault.Trace (F.contents faults.old) (F.contents faults.new)) }
-    ensures untold { OnOk result (Keeps (F.contents faults.old) (F.contents faults.new)) }
-{
-    match file {
-        Ok(file) => Ok(file),
-        Err(_) => Err(end(faults, Err(CommandFault::Trace))),
-    }
-}
 
 /// Whether the file at a path is this one: the same inode of the same device. It isn't, if the file system doesn't tell.
 pub fn is_at<R: Files, T: OpenFile>(rt: &R, path: Path<'_>, file: &T) -> bool {

@@ -4,7 +4,7 @@ ghost use Rattle.std.specs.Prelude.{◌≡◌, ◌<◌, ◌≤◌};
 
 use crate::{ask, create, lock};
 use anyhow::anyhow;
-use fl_book::{Ask, Board, BoardName, FreshLog, Seat, ToldLists};
+use fl_book::{Ask, Board, BoardName, FreshLog, NothingOutgoing, Seat, ToldLists};
 use fl_core::{Rules, Tolds};
 use fl_order::Order;
 use std::alloc::Global;
@@ -136,7 +136,14 @@ fn hand_in_rows<L: BoardName, R: Wait>(pool: &WorkerPool<'_, L, R>, seat: Seat<L
     };
     for number in 0..pool.plan.orders / 16 {
         let row = row_at(seat.worker(), number.wrapping_mul(16));
-        let handed = pool.board.hand_in_all(pool.rt, &mut seat, &row, &mut tolds, &mut lists);
+        let handed = pool.board.hand_in_all(
+            pool.rt,
+            &NothingOutgoing,
+            &mut seat,
+            &row,
+            &mut tolds,
+            &mut lists,
+        );
         if handed.is_err() || lists.count() < 16 {
             break;
         }

@@ -7,7 +7,7 @@ use super::fair::are_same;
 use super::{closed, create, new_tolds, opened, order, upto};
 use fl_board::{Ask, Board, BoardName, FreshLog, Seat};
 use fl_core::{Rules, Tolds};
-use fl_desk::ToldLists;
+use fl_desk::{NothingOutgoing, ToldLists};
 use fl_history::History;
 use fl_order::{LockAsk, Op, Order};
 use fl_trace::read_trace;
@@ -58,7 +58,9 @@ fn hand_in<L: BoardName, R: Wait + Abort>(
     requires room { HasRoom L.rules tolds.old }
     requires lists { (L.rules.parked + 1 ≤ lists.old.room) × (0 < lists.old.places) }
 {
-    let handed = board.hand_in_all(rt, seat, row, tolds, lists).is_ok();
+    let handed = board
+        .hand_in_all(rt, &NothingOutgoing, seat, row, tolds, lists)
+        .is_ok();
     assert!(rt; handed);
 }
 

@@ -5,7 +5,7 @@ ghost use Rattle.fl_desk.specs.Answered.{IsAnsweredLast, answered_by};
 ghost use Rattle.fl_desk.specs.Legal.{step_lines};
 
 use fl_core::{Core, Rules, Tolds};
-use fl_desk::{Counter, HandFault, NoView, ToldLists};
+use fl_desk::{Counter, HandFault, NoView, Outgoing, ToldLists};
 use fl_history::Lines;
 use fl_order::{Answer, Errno, Op, Order, Told};
 use std::alloc::Global;
@@ -156,9 +156,10 @@ impl Counter for Tally {
 
     ghost most_tolds = { 257 };
 
-    fn hand_in_all<R: Wait>(
+    fn hand_in_all<R: Wait, O: Outgoing>(
         &self,
         _rt: &R,
+        _outgoing: &O,
         seat: &mut Seat,
         orders: &[Order],
         tolds: &mut Tolds,

@@ -1,0 +1,286 @@
+//! `lockd serve`.
+
+ghost use Rattle.std.specs.Prelude.{◌≡◌, ◌↔◌, ◌≤◌, ◌<◌, Some, IfErr, IfOk, OnOk};
+ghost use Rattle.std.specs.Io.KnownBytes.{Keeps};
+ghost use Rattle.lockd.specs.Inside.{AsksFile, AsksRefusal, GoesWhere};
+ghost use Rattle.lockd_faults.specs.declared.fault.CommandFault.{CommandFault};
+ghost use Rattle.lockd_serve.specs.Ending.{Ends};
+
+use crate::descriptors::hold_closed_streams;
+use crate::words::{ServerWords, tell_lines};
+use lockd_cli::{Trace, WhenFull, WhenStuck};
+use lockd_commands::{CommandFault, Rules, Status, Watch, Watched};
+use lockd_serve::{
+    Noting, Observer, ServeOptions, Telling, TraceTo, Untraced, WhenUnwritten, WhenWriterFails,
+    end_unopened, end_without_file, is_at, is_unused, resume_on, serve_on,
+};
+use std::fs::{File, Files, OpenOptions};
+use std::io::{Read, Stderr, Write};
+use std::net::Net;
+use std::path::Path;
+use std::sync::Wait;
+use std::thread::Threads;
+use std::{fs, io};
+
+// What writes a trace's file.
+type Written<'a> = Telling<'a, File, Stderr>;
+
+// What says what a server does.
+type Words<'a> = ServerWords<'a, HostRuntime, Stderr>;
+
+/// `lockd serve`. `threads` is the runtime too: only `main` has the right to start threads and to wait.
+pub(crate) fn serve<T: Threads + Wait + Net + Files + Sync>(
+    rt: &HostRuntime,
+    threads: &T,
+    socket: &str,
+    workers: u32,
+    trace: &Trace,
+    rules: Rules,
+    verbose: bool,
+) -> Status
+    requires workers { (0 < workers) × (workers ≤ 16) }
+{
+    hold_closed_streams(rt);
+    let mut words = server_words(rt, verbose, socket, file_of(trace));
+    let to = match opened(rt, trace, &mut rt.stderr(), &mut words) {
+        Ok(to) => to,
+        Err(status) => return status,
+    };
+    let options = ServeOptions {
+        workers,
+        rules,
+        trace: to,
+        when_full: when_full(trace),
+    };
+    serve_opened(rt, threads, socket, trace, options, &mut words)
+}
+
+// Serves as these options say, once the trace's file is there, and looks for that at the end.
+fn serve_opened<T: Threads + Wait + Net + Files + Sync>(
+    rt: &HostRuntime,
+    threads: &T,
+    socket: &str,
+    trace: &Trace,
+    options: ServeOptions<Written<'_>>,
+    words: &mut Words<'_>,
+) -> Status
+    requires workers { (0 < options.workers) × (options.workers ≤ 16) }
+{
+    let mut output = Noting::new(io::writer(rt));
+    let mut faults = rt.stderr();
+    let path = Path::new(socket);
+    let (status, written) = serve_on(
+        threads,
+        rt.alloc(),
+        path,
+        options,
+        &mut output,
+        &mut faults,
+        words,
+    );
+    words.printed(status, output.failed());
+    remove_unused(rt, trace, status);
+    end_traced(rt, trace, written, status, &mut faults, words)
+}
+
+/// `lockd serve --resume`.
+pub(crate) fn resume(
+    rt: &HostRuntime,
+    socket: &str,
+    file: &str,
+    when: WhenStuck,
+    rules: Rules,
+    verbose: bool,
+) -> Status {
+    hold_closed_streams(rt);
+    let mut words = server_words(rt, verbose, socket, file);
+    let trace = match opened_behind(rt, file) {
+        Ok(trace) => trace,
+        Err(why) => {
+            return end_unopened(&mut rt.stderr(), &mut words, Untraced::Unopened(why));
+        }
+    };
+    let status = resume_opened(rt, socket, rules, trace, file, when, &mut words);
+    if verbose {
+        tell_file(rt, file, rules, status, &mut rt.stderr());
+    }
+    status
+}
+
+// Goes on in a file that was opened.
+fn resume_opened(
+    rt: &HostRuntime,
+    socket: &str,
+    rules: Rules,
+    trace: File,
+    file: &str,
+    when: WhenStuck,
+    words: &mut Words<'_>,
+) -> Status {
+    let mut faults = rt.stderr();
+    resume_on(
+        rt,
+        rt.alloc(),
+        Path::new(socket),
+        rules,
+        trace,
+        file,
+        when_unwritten(when),
+        &mut faults,
+        rt.stderr(),
+        words,
+    )
+}
+
+// Says more of a server at this socket, whose trace's file is at this path, if that is asked for.
+fn server_words<'a>(
+    rt: &'a HostRuntime,
+    verbose: bool,
+    socket: &'a str,
+    file: &'a str,
+) -> Words<'a> {
+    let to = if verbose { Some(rt.stderr()) } else { None };
+    ServerWords::new(rt, to, socket, file)
+}
+
+// The path of the trace's file; nothing if it has none.
+fn file_of(trace: &Trace) -> &str {
+    match trace {
+        Trace::File(file, _) => file.as_str(),
+        Trace::Printed | Trace::Nowhere => "",
+    }
+}
+
+// Reads a trace's file once more, if no server goes on behind it for what its lines are, and says more of them.
+fn tell_file<F: Write>(rt: &HostRuntime, file: &str, rules: Rules, status: Status, faults: &mut F) {
+    if !matches!(
+        status,
+        Status::Faulted(CommandFault::BadLine(_) | CommandFault::Differs(_))
+    ) {
+        return;
+    }
+    let Ok(trace) = File::open(rt, Path::new(file)) else {
+        return;
+    };
+    let mut input = Watched::new(trace, Watch::of_trace(rt.alloc(), rules, usize::MAX).ok());
+    read_through(&mut input);
+    if let Some(watch) = input.seen() {
+        tell_lines(faults, status, file, watch);
+    }
+}
+
+// Reads all that there is, or up to a read that fails.
+fn read_through<R: Read>(input: &mut R) {
+    let mut room = [0; 4096];
+    for _ in 0..u64::MAX {
+        match input.read(&mut room) {
+            Ok(0) | Err(_) => return,
+            Ok(_) => {}
+        }
+    }
+}
+
+// Where the trace of `lockd serve` goes. Its file is made before the server listens.
+fn opened<'a, R: Files, F: Write, N: Write>(
+    rt: &HostRuntime,
+    trace: &'a Trace,
+    faults: &mut F,
+    words: &mut ServerWords<'_, R, N>,
+) -> Result<TraceTo<Written<'a>>, Status>
+    ensures trace { IfOk result (GoesWhere trace.now) }
+    ensures error { IfErr result (λ status. AsksFile trace.now × Ends (Some CommandFault.Trace) (record {
+      status = status;
+      told = F.contents faults.old;
+      told_now = F.contents faults.new;
+    })) }
+    ensures untold { OnOk result (Keeps (F.contents faults.old) (F.contents faults.new)) }
+{
+    match trace {
+        Trace::Printed => Ok(TraceTo::Output),
+        Trace::Nowhere => Ok(TraceTo::Nowhere),
+        Trace::File(file, _) => {
+            let made = match made(rt, file.as_str()) {
+                Ok(made) => made,
+                Err(error) => return Err(end_unopened(faults, words, Untraced::Unopened(error))),
+            };
+            words.begun();
+            lock(&made, words);
+            Ok(TraceTo::Writer(Telling::new(made, file.as_str(), rt.stderr())))
+        }
+    }
+}
+
+// Locks a trace's file, so that no other server goes on in it.
+fn lock<R: Files, N: Write>(made: &File, words: &mut ServerWords<'_, R, N>) {
+    if let Err(error) = made.try_lock() {
+        words.unlocked(&io::Error::from(error));
+    }
+}
+
+// A new file at a path.
+fn made(rt: &HostRuntime, path: &str) -> io::Result<File> {
+    OpenOptions::new()
+        .append(true)
+        .create_new(true)
+        .open(rt, Path::new(path))
+}
+
+// The file at a path, which is made if there is none. What is written goes behind what it has.
+fn opened_behind(rt: &HostRuntime, path: &str) -> io::Result<File> {
+    let mut options = OpenOptions::new();
+    options
+        .read(true)
+        .append(true)
+        .create(true)
+        .open(rt, Path::new(path))
+}
+
+// Ends a server with this status. If its trace's file was removed or replaced, that is told.
+fn end_traced<F: Write>(
+    rt: &HostRuntime,
+    trace: &Trace,
+    written: Option<Written<'_>>,
+    status: Status,
+    faults: &mut F,
+    words: &mut Words<'_>,
+) -> Status {
+    match (trace, &written) {
+        (Trace::File(file, _), Some(written))
+            if !is_at(rt, Path::new(file.as_str()), written.file()) => {
+            let status = end_without_file(faults, status);
+            words.lost();
+            status
+        }
+        _ => status,
+    }
+}
+
+// Takes the trace's file away if no session was served.
+fn remove_unused(rt: &HostRuntime, trace: &Trace, status: Status) {
+    match trace {
+        Trace::File(file, _) if is_unused(status) => {
+            let _ = fs::remove_file(rt, Path::new(file.as_str()));
+        }
+        _ => {}
+    }
+}
+
+// What happens to orders when the trace's file can't be written.
+fn when_full(trace: &Trace) -> WhenWriterFails
+    ensures { result ≡ WhenWriterFails.Refuse ↔ AsksRefusal trace.now }
+{
+    match trace {
+        Trace::File(_, WhenFull::Refuse) => WhenWriterFails::Refuse,
+        Trace::File(_, WhenFull::GoOn) | Trace::Printed | Trace::Nowhere => WhenWriterFails::GoOn,
+    }
+}
+
+// What a server does that goes on behind a trace, while the trace's file can't be written.
+fn when_unwritten(said: WhenStuck) -> WhenUnwritten
+    ensures { result ≡ WhenUnwritten.End ↔ said ≡ WhenStuck.End }
+{
+    match said {
+        WhenStuck::Wait => WhenUnwritten::Wait,
+        WhenStuck::End => WhenUnwritten::End,
+    }
+}

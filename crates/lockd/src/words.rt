@@ -1,0 +1,347 @@
+//! What `--verbose` adds on standard error.
+
+use crate::bad_line::{Why, why_bad, why_bad_hex};
+use lockd_commands::{CommandFault, Status, Watch};
+use lockd_serve::{Observer, Parting, Untraced};
+use std::fmt::{Display, Formatter};
+use std::fs::Files;
+use std::io::{ErrorKind, Write};
+use std::os::unix::fs::FileTypeExt;
+use std::path::Path;
+use std::{fmt, fs, io};
+
+/// Says what a server does, and why it serves nobody, if that is asked for.
+#[derive(Drop)]
+pub(crate) struct ServerWords<'a, R, W> {
+    rt: &'a R,
+    to: Option<W>,
+    // The path of the socket, and that of the trace's file, if there is one.
+    socket: &'a str,
+    file: &'a str,
+    // It goes on behind the file's lines.
+    goes_on: bool,
+}
+
+impl<'a, R: Files, W: Write> ServerWords<'a, R, W> {
+    /// To this writer; to none, nothing is said.
+    pub(crate) fn new(
+        rt: &'a R,
+        to: Option<W>,
+        socket: &'a str,
+        file: &'a str,
+    ) -> ServerWords<'a, R, W> {
+        ServerWords {
+            rt,
+            to,
+            socket,
+            file,
+            goes_on: false,
+        }
+    }
+
+    /// The trace's file was made.
+    pub(crate) fn begun(&mut self) {
+        let file = self.file;
+        self.say(format_args!("the trace goes to {file}"));
+    }
+
+    /// The trace's file was made, and can't be locked for this reason.
+    pub(crate) fn unlocked(&mut self, why: &io::Error) {
+        let file = self.file;
+        self.say(format_args!(
+            "{file}: it can't be locked: {why}\nlet no other server go on in it by --resume"
+        ));
+    }
+
+    /// The server ended so, and the last write to its output that failed did so for this reason.
+    pub(crate) fn printed(&mut self, status: Status, unwritten: Option<ErrorKind>) {
+        if let Some(to) = &mut self.to {
+            tell_streams(to, status, None, unwritten);
+        }
+    }
+
+    // Writes a line.
+    fn say<D: Display + Drop>(&mut self, line: D) {
+        if let Some(to) = &mut self.to {
+            let _ = writeln!(to, "{line}");
+        }
+    }
+}
+
+impl<R: Files, W: Write> Observer for ServerWords<'_, R, W> {
+    fn listening(&mut self) {
+        let socket = self.socket;
+        self.say(format_args!("listening at {socket}"));
+    }
+
+    fn connected(&mut self) {
+        self.say("a client is connected");
+    }
+
+    fn ended(&mut self, client: Parting, unwritten: Option<ErrorKind>) {
+        match client {
+            Parting::Closed => self.say("the client has closed its end"),
+            Parting::Here => self.say("the server ended the session"),
+            Parting::Unread(why) => self.say(Unread(why)),
+        }
+        if let Some(why) = unwritten {
+            self.say(Unwritten(why));
+        }
+    }
+
+    fn resumed(&mut self) {
+        self.goes_on = true;
+        let file = self.file;
+        self.say(format_args!("going on behind the lines of {file}"));
+    }
+
+    fn unheard(&mut self, why: io::Error) {
+        let socket = self.socket;
+        if socket.is_empty() {
+            self.say(NO_PATH);
+            return;
+        }
+        let advice = unbound(self.rt, socket, why.kind(), self.goes_on);
+        self.say(format_args!("{socket}: {why}\n{advice}"));
+    }
+
+    fn untraced(&mut self, why: Untraced) {
+        let file = self.file;
+        match why {
+            Untraced::Unopened(why) => {
+                let advice = unopened(why.kind());
+                self.say(format_args!("{file}: {why}\n{advice}"));
+            }
+            Untraced::Taken => self.say(format_args!(
+                "{file}: another program has it locked, as a server does: end that one first"
+            )),
+            Untraced::Unlocked(why) => self.say(format_args!(
+                "{file}: it can't be locked: {why}\nchoose a file that can be locked"
+            )),
+            Untraced::Gone => self.say(format_args!(
+                "{file}: another file is there by now, or none: try again"
+            )),
+            Untraced::Irregular => self.say(format_args!(
+                "{file}: it is no regular file: name another"
+            )),
+            Untraced::Uncut(why) => self.say(format_args!(
+                "{file}: what follows its last newline can't be cut off: {why}\ngo on behind a copy of it"
+            )),
+        }
+    }
+
+    fn lost(&mut self) {
+        let file = self.file;
+        self.say(format_args!(
+            "{file}: it was removed or replaced: another file is there by now, or none"
+        ));
+    }
+}
+
+// Why a client's messages can't be read.
+#[derive(Clone, Copy, Debug)]
+struct Unread(ErrorKind);
+
+impl Display for Unread {
+    fn fmt<W: fmt::Write>(&self, f: &mut Formatter<W>) -> fmt::Result {
+        let why = self.0;
+        write!(f, "the client's messages can't be read: {why}")?;
+        if why == ErrorKind::ConnectionReset {
+            f.write_str("\nit closed its end with replies unread: it has to read them first")?;
+        }
+        Ok(())
+    }
+}
+
+// Why no replies can be written to a client.
+#[derive(Clone, Copy, Debug)]
+struct Unwritten(ErrorKind);
+
+impl Display for Unwritten {
+    fn fmt<W: fmt::Write>(&self, f: &mut Formatter<W>) -> fmt::Result {
+        let why = self.0;
+        write!(f, "replies can't be written to the client: {why}")?;
+        if why == ErrorKind::BrokenPipe {
+            f.write_str("\nit closed its end before they came: it has to wait for them")?;
+        }
+        Ok(())
+    }
+}
+
+const NO_PATH: &str = "the path of the socket is empty: name a file";
+
+// A socket's path has so many bytes at most.
+const MOST_BYTES: usize = 107;
+
+const TOO_LONG: &str = "a socket's path has at most 107 bytes: choose a shorter one";
+
+// What to do if no socket can be made at a path, for a reason of this kind.
+fn unbound<R: Files>(rt: &R, socket: &str, kind: ErrorKind, goes_on: bool) -> &'static str {
+    if socket.len() > MOST_BYTES {
+        return TOO_LONG;
+    }
+    if kind != ErrorKind::AddrInUse {
+        return in_folder(kind);
+    }
+    let Ok(found) = fs::symlink_metadata(rt, Path::new(socket)) else {
+        return in_folder(kind);
+    };
+    let file = found.file_type();
+    if file.is_dir() {
+        return "a folder is there: choose a path in it";
+    }
+    match (file.is_socket(), goes_on) {
+        (true, true) => "a server listens at the socket there: end it, or choose another path",
+        (true, false) =>
+            "a socket's file is there: if no server listens at it, remove it, or use --resume, which replaces it",
+        (false, _) => "a file is there that is no socket: choose another path",
+    }
+}
+
+// What to do if a trace's file can't be opened or made, for a reason of this kind.
+fn unopened(kind: ErrorKind) -> &'static str {
+    match kind {
+        ErrorKind::AlreadyExists => {
+            "something is there: choose another path, or go on behind a trace by --resume FILE"
+        }
+        ErrorKind::IsADirectory => "a folder is there: choose a path in it",
+        _ => in_folder(kind),
+    }
+}
+
+// What to do if no file can be made at a path at which there is none.
+fn in_folder(kind: ErrorKind) -> &'static str {
+    match kind {
+        ErrorKind::NotFound => "there is no such folder: make it first",
+        ErrorKind::NotADirectory => "a part of the path is no folder: choose another path",
+        ErrorKind::PermissionDenied =>
+            "this user has no right to do that: choose another path, or another user",
+        _ => "choose another path, or try again",
+    }
+}
+
+/// Says why no server was reached at a path, and what to do. The system gave this reason, if the path isn't empty.
+pub(crate) fn tell_unconnected<R: Files, W: Write>(
+    to: &mut W,
+    rt: &R,
+    socket: &str,
+    why: &Option<io::Error>,
+) {
+    let _ = match why {
+        None => writeln!(to, "{NO_PATH}"),
+        Some(why) => {
+            let advice = unreached(rt, socket, why.kind());
+            writeln!(to, "{socket}: {why}\n{advice}")
+        }
+    };
+}
+
+// What to do if no server was reached at a path, for a reason of this kind.
+fn unreached<R: Files>(rt: &R, socket: &str, kind: ErrorKind) -> &'static str {
+    if socket.len() > MOST_BYTES {
+        return TOO_LONG;
+    }
+    match kind {
+        ErrorKind::NotFound => "no file is there: start a server there first",
+        ErrorKind::NotADirectory => "a part of the path is no folder: name the socket of a server",
+        ErrorKind::PermissionDenied =>
+            "this user has no right to do that: name another socket, or be another user",
+        ErrorKind::ConnectionRefused if is_socket(rt, socket) => {
+            "no server listens at the socket there: start one"
+        }
+        ErrorKind::ConnectionRefused => "what is there is no socket: name that of a server",
+        _ => "name the socket of a server, or try again",
+    }
+}
+
+fn is_socket<R: Files>(rt: &R, path: &str) -> bool {
+    match fs::metadata(rt, Path::new(path)) {
+        Ok(found) => found.file_type().is_socket(),
+        Err(_) => false,
+    }
+}
+
+/// Says more of how a command ended that read lines from an input of this name.
+pub(crate) fn tell_lines<W: Write>(to: &mut W, status: Status, name: &str, watch: &Watch) {
+    match status {
+        Status::Faulted(CommandFault::BadLine(n)) if watch.bad == Some(n) => {
+            let why = why_bad(&watch.text, watch.takes_replies());
+            tell_bad(to, name, n, &watch.text, why);
+        }
+        Status::Different => tell_difference(to, name, watch),
+        Status::Faulted(CommandFault::Differs(n)) if watch.differs == Some(n) => {
+            tell_difference(to, name, watch);
+        }
+        Status::Good => {
+            let (lines, orders) = (watch.lines, watch.orders);
+            let _ = writeln!(to, "{lines} lines, {orders} orders");
+        }
+        Status::Faulted(_) => {}
+    }
+}
+
+/// Says why standard input can't be read, or standard output can't be written, if a command ended for this.
+pub(crate) fn tell_streams<W: Write>(
+    to: &mut W,
+    status: Status,
+    unread: Option<ErrorKind>,
+    unwritten: Option<ErrorKind>,
+) {
+    if let (Status::Faulted(CommandFault::Read), Some(why)) = (status, unread) {
+        let _ = writeln!(to, "standard input can't be read: {why}");
+    }
+    if let (Status::Faulted(CommandFault::Write), Some(why)) = (status, unwritten) {
+        let _ = writeln!(to, "standard output can't be written: {why}");
+    }
+}
+
+/// Says which line of hex is bad, and why.
+pub(crate) fn tell_hex<W: Write>(to: &mut W, name: &str, n: usize, line: &[u8]) {
+    tell_bad(to, name, n, line, why_bad_hex(line));
+}
+
+fn tell_bad<W: Write>(to: &mut W, name: &str, n: usize, line: &[u8], why: Why<'_>) {
+    let text = Shown(line);
+    let _ = writeln!(to, "line {n} of {name}: {text}");
+    let _ = writeln!(to, "{why}");
+}
+
+// Says which line breaks the rules, and what they want there.
+fn tell_difference<W: Write>(to: &mut W, name: &str, watch: &Watch) {
+    let Some(n) = watch.differs else {
+        return;
+    };
+    if watch.found.is_empty() {
+        let _ = writeln!(to, "line {n} of {name} is missing");
+    } else {
+        let text = Shown(&watch.found);
+        let _ = writeln!(to, "line {n} of {name}: {text}");
+    }
+    if watch.wanted.is_empty() {
+        let _ = writeln!(to, "the rules want an order there: no reply is due");
+    } else {
+        let text = Shown(&watch.wanted);
+        let _ = writeln!(to, "the rules want: {text}");
+    }
+    let _ = writeln!(
+        to,
+        "perhaps it was made by other rules: --fair, --runs, --parked, --files or --open"
+    );
+}
+
+// A line without its newline, in which each byte that isn't printable is `\xHH`.
+#[derive(Clone, Copy, Debug)]
+struct Shown<'a>(&'a [u8]);
+
+impl Display for Shown<'_> {
+    fn fmt<W: fmt::Write>(&self, f: &mut Formatter<W>) -> fmt::Result {
+        for byte in self.0.strip_suffix(b"\n").unwrap_or(self.0) {
+            if *byte >= 32 && *byte < 127 {
+                f.write_char(char::from(*byte))?;
+            } else {
+                write!(f, "\\x{byte:02x}")?;
+            }
+        }
+        Ok(())
+    }
+}

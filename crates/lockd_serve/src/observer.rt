@@ -1,0 +1,57 @@
+//! What a server tells of itself beside its faults: what it does, and why it serves nobody.
+
+use std::io;
+use std::io::ErrorKind;
+
+/// Is told what a server does. Nothing that the server does depends on it.
+pub trait Observer {
+    /// It listens at the socket's path, and no client is there yet.
+    fn listening(&mut self);
+
+    /// A client is connected.
+    fn connected(&mut self);
+
+    /// The session is over, and this is what became of its client. If a write to it failed, `unwritten` says why the last
+    /// one did.
+    fn ended(&mut self, client: Parting, unwritten: Option<ErrorKind>);
+
+    /// The lines of the trace's file were read, and it goes on behind them.
+    fn resumed(&mut self);
+
+    /// No connection came, for this reason: `InvalidInput` at an empty path. `cannot listen` was told.
+    fn unheard(&mut self, why: io::Error);
+
+    /// There is no file for the trace. `cannot trace` was told.
+    fn untraced(&mut self, why: Untraced);
+
+    /// The trace's file was removed or replaced by the end. `trace failed` was told.
+    fn lost(&mut self);
+}
+
+/// What the last read from a client said of it.
+#[derive(Clone, Copy, Debug, PartialEq, Eq)]
+pub enum Parting {
+    /// It had closed its end, and all that it sent was read.
+    Closed,
+    /// The read failed, for this reason.
+    Unread(ErrorKind),
+    /// Neither, so that the server ended the session: after a DESTROY, or for a fault.
+    Here,
+}
+
+/// Why a server has no file for its trace.
+#[derive(Drop)]
+pub enum Untraced {
+    /// It can't be opened or made, for this reason.
+    Unopened(io::Error),
+    /// Another program has it locked.
+    Taken,
+    /// It can't be locked, for this reason.
+    Unlocked(io::Error),
+    /// Another file stood at its path by the time that it was locked, or none.
+    Gone,
+    /// It is no regular file, or the system doesn't tell.
+    Irregular,
+    /// What follows its last newline can't be cut off, for this reason.
+    Uncut(io::Error),
+}
