@@ -4,10 +4,9 @@ use crate::descriptors::hold_closed_streams;
 use crate::kept::Kept;
 use crate::words::{tell_hex, tell_lines, tell_streams, tell_unconnected};
 use lockd_commands::{
-    CheckOptions, CommandFault, LocksOptions, Rules, Status, Watch, Watched, bytes_on, check_on,
-    drive_on, locks_on, script_on,
+    CheckOptions, CommandFault, LocksOptions, Noting, Rules, Status, Watch, Watched, bytes_on,
+    check_on, drive_on, locks_on, script_on,
 };
-use lockd_serve::Noting;
 use std::alloc::Global;
 use std::io;
 use std::io::{ErrorKind, Read, Write};

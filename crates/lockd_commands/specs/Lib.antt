@@ -5,4 +5,3 @@ pub mod Faults
 pub mod Hex
 pub mod Locks
 pub mod Script
-pub mod Watched

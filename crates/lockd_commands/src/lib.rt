@@ -9,8 +9,7 @@
 //! - a `drive_on` that sends nothing, connects elsewhere, waits before it sends, doesn't close, or says `no memory`
 //!   at an empty path;
 //! - a `drive_on` that prints replies which didn't come from the socket (`try_stored_replies` in `tools/try_sockets`);
-//! - one that says another reason why it isn't connected, or none (`tools/try_words`);
-//! - a `Watch` that sees other lines than were read, counts them wrongly, or finds another line or reply.
+//! - one that says another reason why it isn't connected, or none (`tools/try_words`).
 //!
 //! `lockd_commands_tests`, `tools/try_commands`, `tools/try_locks` and `tools/try_sockets` refuse these.
 //!
@@ -27,15 +26,12 @@ mod exchange;
 mod locks;
 mod reply;
 mod script;
-mod watched;
-mod witness;
 
 pub use bytes::bytes_on;
 pub use check::{CheckOptions, check_on};
 pub use drive::drive_on;
 pub use fl_core::Rules;
 pub use fl_order::OpKind;
-pub use lockd_faults::{CommandFault, Status};
+pub use lockd_faults::{CommandFault, Noting, Status, Watch, Watched};
 pub use locks::{LocksOptions, locks_on};
 pub use script::script_on;
-pub use watched::{Watch, Watched};

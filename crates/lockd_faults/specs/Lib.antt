@@ -2,3 +2,4 @@ pub mod Causes
 pub mod Faults
 pub mod HexLines
 pub mod Status
+pub mod Watched

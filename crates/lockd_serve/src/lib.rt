@@ -39,7 +39,6 @@
 #![tactic(auto)]
 
 mod ending;
-mod noting;
 mod observer;
 mod options;
 mod resuming;
@@ -53,7 +52,6 @@ mod unused;
 
 pub use ending::end_unopened;
 pub use fl_stream::WhenWriterFails;
-pub use noting::Noting;
 pub use observer::{Observer, Parting, Untraced};
 pub use options::{ServeOptions, TraceTo};
 pub use resuming::{resume_on, resumed_from};

@@ -11,7 +11,6 @@ ghost use Rattle.lockd_serve.specs.Ending.{Ending};
 ghost use Rattle.lockd_serve.specs.Inside.{DiffersBy, told_of_reading};
 
 use crate::ending::{end_resumed, end_unheard, end_unopened};
-use crate::noting::Noting;
 use crate::observer::{Observer, Untraced};
 use crate::retrying::{Retrying, Telling, WhenUnwritten};
 use crate::serving::hang_up;
@@ -23,7 +22,7 @@ use fl_desk::Verdict;
 use fl_history::Recent;
 use fl_judge::{AuditFault, Heard, Judge, Resumed, hear_cut};
 use fl_resume::resume;
-use lockd_faults::{CommandFault, Status, end};
+use lockd_faults::{CommandFault, Noting, Status, end};
 use std::alloc::Global;
 use std::fs::{File, Files, OpenFile, TryLockError};
 use std::io;

@@ -10,13 +10,12 @@ ghost use Rattle.lockd_serve.specs.declared.options.TraceTo.{TraceTo};
 ghost use Rattle.lockd_serve.specs.Unserved.{LeavesNothing, ServesNobody};
 
 use crate::ending::end_unheard;
-use crate::noting::Noting;
 use crate::observer::Observer;
 use crate::options::ServeOptions;
 use crate::serving::serve_stream;
 use crate::socket::{OldSocket, connection};
 use crate::spinning::{Patient, Spinning};
-use lockd_faults::Status;
+use lockd_faults::{Noting, Status};
 use std::alloc::Global;
 use std::fs::Files;
 use std::io::Write;

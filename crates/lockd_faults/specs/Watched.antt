@@ -1,6 +1,6 @@
 -- What was seen of the lines of an input.
 use Rattle.std.specs.Prelude.{◌≡◌, None}
-use Rattle.lockd_commands.specs.declared.watched.Watch.{Watch}
+use Rattle.lockd_faults.specs.declared.watched.Watch.{Watch}
 
 -- no line was seen
 abbrev pub SawNothing : Watch → Type 0

@@ -1,14 +1,14 @@
 //! A reader whose lines are looked at on the way, for what a command doesn't say of them.
 
 ghost use Rattle.std.specs.Prelude.{◌≡◌, IfOk};
-ghost use Rattle.lockd_commands.specs.Watched.{SawNothing};
+ghost use Rattle.lockd_faults.specs.Watched.{SawNothing};
 
+use crate::hex_lines::split_line;
 use crate::witness::Witness;
 use fl_core::Rules;
 use fl_history::Line;
 use fl_order::NoMemory;
 use fl_trace::{LINE_ROOM, first_line, push_line};
-use lockd_faults::split_line;
 use std::alloc::Global;
 use std::io;
 use std::io::{ErrorKind, Read};
