@@ -48,7 +48,7 @@ _lockd_mount() {
         --files) mapfile -t COMPREPLY < <(compgen -W '1 256 65536' -- "$word") ;;
         --open) mapfile -t COMPREPLY < <(compgen -W '1 1024 65536' -- "$word") ;;
         --trace) mapfile -t COMPREPLY < <(compgen -W 'none' -f -- "$word") ;;
-        --trace-full) mapfile -t COMPREPLY < <(compgen -W 'go-on refuse wait end' -- "$word") ;;
+        --trace-full) mapfile -t COMPREPLY < <(compgen -W 'go-on wait end' -- "$word") ;;
         --resume | --times) mapfile -t COMPREPLY < <(compgen -f -- "$word") ;;
         --mode) mapfile -t COMPREPLY < <(compgen -W '0755 1777' -- "$word") ;;
         --uid | --gid | --grace) COMPREPLY=() ;;

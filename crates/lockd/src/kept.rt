@@ -5,8 +5,8 @@ ghost use Rattle.std.specs.Prelude.{◌≡◌};
 use std::io;
 use std::io::{ErrorKind, Read};
 
-/// Reads what another reader has, and keeps it, if there is a text to keep it in and memory for it. It keeps why the
-/// last read that failed did so.
+/// Reads what another reader has, and keeps it, if there is a text to keep it in; nothing, once memory runs out. It keeps
+/// why the last read that failed did so.
 #[derive(Drop)]
 pub(crate) struct Kept<R> {
     input: R,
@@ -31,6 +31,17 @@ impl<R: Read> Kept<R> {
         self.failed
     }
 
+    // Keeps what was read.
+    fn keep(&mut self, piece: &[u8]) {
+        let kept = match &mut self.text {
+            Some(text) => text.extend_from_slice(piece).is_ok(),
+            None => false,
+        };
+        if !kept {
+            self.text = None;
+        }
+    }
+
     /// The line of this number, from 1, with its newline if one ends it; none if it wasn't kept.
     pub(crate) fn line(&self, number: usize) -> Option<&[u8]> {
         let mut rest = self.text.as_ref()?.as_slice();
@@ -51,11 +62,7 @@ impl<R: Read> Read for Kept<R> {
     fn read(&mut self, buf: &mut [u8]) -> io::Result<usize> {
         let read = self.input.read(buf);
         match &read {
-            Ok(count) => {
-                if let Some(text) = &mut self.text {
-                    let _ = text.extend_from_slice(&buf[..*count]);
-                }
-            }
+            Ok(count) => self.keep(&buf[..*count]),
             Err(error) => self.failed = Some(error.kind()),
         }
         read

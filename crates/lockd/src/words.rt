@@ -20,6 +20,8 @@ pub(crate) struct ServerWords<'a, R, W> {
     file: &'a str,
     // It goes on behind the file's lines.
     goes_on: bool,
+    // It has made its socket.
+    listens: bool,
 }
 
 impl<'a, R: Files, W: Write> ServerWords<'a, R, W> {
@@ -36,6 +38,7 @@ impl<'a, R: Files, W: Write> ServerWords<'a, R, W> {
             socket,
             file,
             goes_on: false,
+            listens: false,
         }
     }
 
@@ -70,6 +73,7 @@ impl<'a, R: Files, W: Write> ServerWords<'a, R, W> {
 
 impl<R: Files, W: Write> Observer for ServerWords<'_, R, W> {
     fn listening(&mut self) {
+        self.listens = true;
         let socket = self.socket;
         self.say(format_args!("listening at {socket}"));
     }
@@ -82,10 +86,18 @@ impl<R: Files, W: Write> Observer for ServerWords<'_, R, W> {
         match client {
             Parting::Closed => self.say("the client has closed its end"),
             Parting::Here => self.say("the server ended the session"),
-            Parting::Unread(why) => self.say(Unread(why)),
+            Parting::Unread(why) => {
+                self.say(format_args!("the client's messages can't be read: {why}"));
+                if why == ErrorKind::ConnectionReset {
+                    self.say("it closed its end with replies unread: it has to read them first");
+                }
+            }
         }
         if let Some(why) = unwritten {
-            self.say(Unwritten(why));
+            self.say(format_args!("replies can't be written to the client: {why}"));
+            if why == ErrorKind::BrokenPipe {
+                self.say("it closed its end before they came: it has to wait for them");
+            }
         }
     }
 
@@ -101,7 +113,11 @@ impl<R: Files, W: Write> Observer for ServerWords<'_, R, W> {
             self.say(NO_PATH);
             return;
         }
-        let advice = unbound(self.rt, socket, why.kind(), self.goes_on);
+        let advice = if self.listens {
+            "no connection can be taken: try again"
+        } else {
+            unbound(self.rt, socket, why.kind(), self.goes_on)
+        };
         self.say(format_args!("{socket}: {why}\n{advice}"));
     }
 
@@ -138,36 +154,6 @@ impl<R: Files, W: Write> Observer for ServerWords<'_, R, W> {
     }
 }
 
-// Why a client's messages can't be read.
-#[derive(Clone, Copy, Debug)]
-struct Unread(ErrorKind);
-
-impl Display for Unread {
-    fn fmt<W: fmt::Write>(&self, f: &mut Formatter<W>) -> fmt::Result {
-        let why = self.0;
-        write!(f, "the client's messages can't be read: {why}")?;
-        if why == ErrorKind::ConnectionReset {
-            f.write_str("\nit closed its end with replies unread: it has to read them first")?;
-        }
-        Ok(())
-    }
-}
-
-// Why no replies can be written to a client.
-#[derive(Clone, Copy, Debug)]
-struct Unwritten(ErrorKind);
-
-impl Display for Unwritten {
-    fn fmt<W: fmt::Write>(&self, f: &mut Formatter<W>) -> fmt::Result {
-        let why = self.0;
-        write!(f, "replies can't be written to the client: {why}")?;
-        if why == ErrorKind::BrokenPipe {
-            f.write_str("\nit closed its end before they came: it has to wait for them")?;
-        }
-        Ok(())
-    }
-}
-
 const NO_PATH: &str = "the path of the socket is empty: name a file";
 
 // A socket's path has so many bytes at most.
@@ -191,7 +177,8 @@ fn unbound<R: Files>(rt: &R, socket: &str, kind: ErrorKind, goes_on: bool) -> &'
         return "a folder is there: choose a path in it";
     }
     match (file.is_socket(), goes_on) {
-        (true, true) => "a server listens at the socket there: end it, or choose another path",
+        (true, true) =>
+            "a socket is there that can't be replaced: end its server, or choose another path",
         (true, false) =>
             "a socket's file is there: if no server listens at it, remove it, or use --resume, which replaces it",
         (false, _) => "a file is there that is no socket: choose another path",
@@ -216,7 +203,7 @@ fn in_folder(kind: ErrorKind) -> &'static str {
         ErrorKind::NotADirectory => "a part of the path is no folder: choose another path",
         ErrorKind::PermissionDenied =>
             "this user has no right to do that: choose another path, or another user",
-        _ => "choose another path, or try again",
+        _ => "choose another path",
     }
 }
 
@@ -273,8 +260,9 @@ pub(crate) fn tell_lines<W: Write>(to: &mut W, status: Status, name: &str, watch
             tell_difference(to, name, watch);
         }
         Status::Good => {
-            let (lines, orders) = (watch.lines, watch.orders);
-            let _ = writeln!(to, "{lines} lines, {orders} orders");
+            let lines = Count(watch.lines, "line");
+            let orders = Count(watch.orders, "order");
+            let _ = writeln!(to, "{lines}, {orders}");
         }
         Status::Faulted(_) => {}
     }
@@ -329,18 +317,38 @@ fn tell_difference<W: Write>(to: &mut W, name: &str, watch: &Watch) {
     );
 }
 
-// A line without its newline, in which each byte that isn't printable is `\xHH`.
+// So many things of this name.
+#[derive(Clone, Copy, Debug)]
+struct Count<'a>(usize, &'a str);
+
+impl Display for Count<'_> {
+    fn fmt<W: fmt::Write>(&self, f: &mut Formatter<W>) -> fmt::Result {
+        let Count(count, name) = self;
+        let end = if *count == 1 { "" } else { "s" };
+        write!(f, "{count} {name}{end}")
+    }
+}
+
+// So many bytes of a line are shown: all of one of a trace, and one less than a `Watch` keeps of others.
+const MOST_SHOWN: usize = 699;
+
+// A line without its newline, in which each byte that isn't printable is `\xHH`. If it is longer than any of a trace,
+// two dots stand for the rest.
 #[derive(Clone, Copy, Debug)]
 struct Shown<'a>(&'a [u8]);
 
 impl Display for Shown<'_> {
     fn fmt<W: fmt::Write>(&self, f: &mut Formatter<W>) -> fmt::Result {
-        for byte in self.0.strip_suffix(b"\n").unwrap_or(self.0) {
+        let line = self.0.strip_suffix(b"\n").unwrap_or(self.0);
+        for byte in &line[..line.len().min(MOST_SHOWN)] {
             if *byte >= 32 && *byte < 127 {
                 f.write_char(char::from(*byte))?;
             } else {
                 write!(f, "\\x{byte:02x}")?;
             }
+        }
+        if line.len() > MOST_SHOWN {
+            f.write_str("..")?;
         }
         Ok(())
     }

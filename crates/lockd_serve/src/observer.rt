@@ -3,7 +3,7 @@
 use std::io;
 use std::io::ErrorKind;
 
-/// Is told what a server does. Nothing that the server does depends on it.
+/// Is told what a server does. The server does the same whatever the observer does, but it waits for each of its calls.
 pub trait Observer {
     /// It listens at the socket's path, and no client is there yet.
     fn listening(&mut self);
