@@ -21,7 +21,7 @@ const ASKED: [u64; 6] = [
 const REPLIES: [&str; 7] = ["ok", "entry", "attr", "open", "made", "lock", "err"];
 
 /// Why a line is bad.
-#[derive(Clone, Copy, Debug, PartialEq, Eq)]
+#[derive(Clone, Copy)]
 pub(crate) enum Why<'a> {
     /// No newline ends it.
     Unended,

@@ -318,7 +318,7 @@ fn tell_difference<W: Write>(to: &mut W, name: &str, watch: &Watch) {
 }
 
 // So many things of this name.
-#[derive(Clone, Copy, Debug)]
+#[derive(Clone, Copy)]
 struct Count<'a>(usize, &'a str);
 
 impl Display for Count<'_> {
@@ -334,7 +334,7 @@ const MOST_SHOWN: usize = 699;
 
 // A line without its newline, in which each byte that isn't printable is `\xHH`. If it is longer than any of a trace,
 // two dots stand for the rest.
-#[derive(Clone, Copy, Debug)]
+#[derive(Clone, Copy)]
 struct Shown<'a>(&'a [u8]);
 
 impl Display for Shown<'_> {
