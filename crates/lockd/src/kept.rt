@@ -32,7 +32,9 @@ impl<R: Read> Kept<R> {
     }
 
     // Keeps what was read.
-    fn keep(&mut self, piece: &[u8]) {
+    fn keep(&mut self, piece: &[u8])
+        ensures { self.new.input ≡ self.old.input }
+    {
         let kept = match &mut self.text {
             Some(text) => text.extend_from_slice(piece).is_ok(),
             None => false,
