@@ -7,7 +7,6 @@ mod fair;
 mod looks;
 mod missing;
 mod rows;
-mod storing;
 mod threaded;
 
 use fl_board::{Ask, Board, BoardName, FreshLog, Seat};
