@@ -197,6 +197,7 @@ static void watch_trace(void)
     static bool said;
     struct counts counts;
     struct stat trace;
+    server_look(&it.server);
     if (!it.server.trace[0] || stat(it.server.trace, &trace))
         return;
     carrier_counts(&counts);

@@ -65,6 +65,7 @@ struct server {
     bool was_killed; // by this program, since it didn't end
     bool is_cut; // its last line may be half there: no other server came after it
     bool was_there; // the trace's file, and empty
+    struct stat seen; // the trace's file, with the most bytes that it was seen to have
     char program[PATH_MAX];
     char work[PATH_MAX]; // its folder, or ""
     char trace[PATH_MAX];
@@ -72,6 +73,8 @@ struct server {
 
 // Starts `lockd serve` and connects to it. `stops` says whether to give up.
 void server_start(struct server *server, const struct options *options, bool (*stops)(void));
+// Sees how many bytes its trace has: with fewer no other server goes on.
+void server_look(struct server *server);
 // Starts another one when one has ended, to go on with its trace, and connects to it. Gives the
 // socket, or -1: a line said why, or `stops` said to give up.
 int server_restart(struct server *server, const struct options *options, bool (*stops)(void));

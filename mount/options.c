@@ -147,6 +147,9 @@ void read_options(int argc, char **argv, struct options *options)
     // The kernel doesn't send a FLUSH, RELEASE or FORGET again that is rejected, and sends an INTERRUPT again at once.
     if (options->trace_full && !strcmp(options->trace_full, "refuse"))
         misused("--trace-full refuse isn't for a mount, where a close that is rejected is lost: take go-on, or --resume FILE with wait or end");
+    bool waits = options->trace_full && (!strcmp(options->trace_full, "wait") || !strcmp(options->trace_full, "end"));
+    if (options->trace_full && (options->resume ? !waits : strcmp(options->trace_full, "go-on") != 0))
+        misused("--trace-full takes go-on, and with --resume FILE it takes wait or end");
     if (options->resume && (options->trace || atoi(options->workers) != 1))
         misused("--resume goes with one worker, and without --trace");
     options->folder = argv[optind];

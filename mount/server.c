@@ -196,6 +196,27 @@ static enum begun begin(struct server *server, const struct options *options, bo
     return CONNECTED;
 }
 
+void server_look(struct server *server)
+{
+    struct stat at;
+    if (!server->trace[0] || stat(server->trace, &at))
+        return;
+    bool is_first = !server->seen.st_ino;
+    if (is_first || (at.st_dev == server->seen.st_dev && at.st_ino == server->seen.st_ino && at.st_size > server->seen.st_size))
+        server->seen = at;
+}
+
+// Whether the file of its trace is there, with all that it was seen to have. If it isn't, says so.
+static bool has_its_trace(const struct server *server)
+{
+    struct stat at;
+    if (!stat(server->trace, &at) && at.st_dev == server->seen.st_dev && at.st_ino == server->seen.st_ino && at.st_size >= server->seen.st_size)
+        return true;
+    say_end(server, "");
+    say("%s was removed, replaced or cut: another server wouldn't know all locks", server->trace);
+    return false;
+}
+
 void server_start(struct server *server, const struct options *options, bool (*stops)(void))
 {
     find_program(server);
@@ -213,6 +234,7 @@ void server_start(struct server *server, const struct options *options, bool (*s
         say_end(server, " before it listened");
         fail("%s can't serve; nothing is mounted", server->program);
     }
+    server_look(server);
 }
 
 static void remove_folder(const struct server *server)
@@ -289,6 +311,8 @@ static bool comes_again(const struct server *server, const struct options *optio
 // One that is killed before it listens comes again, too.
 static enum begun begin_again(struct server *server, const struct options *options, bool (*stops)(void))
 {
+    if (!has_its_trace(server))
+        return NOT_TRIED;
     while (comes_again(server, options)) {
         enum begun begun = begin(server, options, stops, FOR_EVER);
         if (begun != ENDED || WIFEXITED(server->status))
@@ -314,8 +338,12 @@ int server_restart(struct server *server, const struct options *options, bool (*
 {
     wait_for_end(server);
     enum begun begun = begin_again(server, options, stops);
-    if (begun == CONNECTED)
+    if (begun == CONNECTED) {
+        // It may have cut off half a line at the end.
+        server->seen = (struct stat){0};
+        server_look(server);
         return server->socket;
+    }
     say_no_other(server, begun);
     if (server->pid)
         kill_server(server);

@@ -1,6 +1,6 @@
 """A mount with --resume: its server is killed, and another one goes on with the trace. TRY_MOUNT_KILLS says how often it is killed at random moments
 (10), by TRY_MOUNT_SEED."""
-import ctypes, mmap, os, random, select, signal, struct, subprocess, sys, tempfile, threading, time
+import ctypes, mmap, os, random, select, shutil, signal, struct, subprocess, sys, tempfile, threading, time
 from collections import Counter
 from report.times import read_times
 from report.trace import read_trace
@@ -428,6 +428,24 @@ def try_a_file_that_was_changed():
     lost(mount, one, two, 3, "bad line 1", "the server ended with status 2 before it listened", f"can't go on with {mount.file}")
 
 
+def try_a_file_that_is_gone_or_cut():
+    """A server that knows less than the one before doesn't follow it, since two would have one lock."""
+    def cut(file):
+        # The mount sees how long it is every three seconds.
+        time.sleep(7)
+        os.truncate(file, os.path.getsize(file) // 2)
+
+    def replace(file):
+        os.replace(shutil.copy(file, f"{file}.copy"), file)
+
+    for spoil, status in (os.remove, 3), (cut, 1), (replace, 1):
+        mount = Resumed()
+        one, two = held_and_waited_for(mount)
+        spoil(mount.file)
+        os.kill(mount.server(), signal.SIGKILL)
+        lost(mount, one, two, status, f"{mount.file} was removed, replaced or cut: another server wouldn't know all locks")
+
+
 def try_a_program_that_is_gone():
     gate = Gate()
     mount = Resumed(**gate.words)
@@ -484,8 +502,8 @@ def try_what_cannot_be_resumed():
     both = "--resume goes with one worker, and without --trace"
     wanted = [(f"{__file__} isn't an empty file: name a new one", "--resume", __file__), ("isn't an empty file", "--resume", folder),
               (both, "--resume", new, "--workers", "2"), (both, "--resume", new, "--trace", "none"), (both, "--trace", new, "--resume", new),
-              ("no folder for /no/such/file", "--resume", "/no/such/file"), ("before it listened", "--resume", new, "--trace-full", "go-on"),
-              ("before it listened", "--trace", new, "--trace-full", "wait")]
+              ("no folder for /no/such/file", "--resume", "/no/such/file"), ("takes go-on, and with", "--resume", new, "--trace-full", "go-on"),
+              ("takes go-on, and with", "--trace", new, "--trace-full", "wait")]
     for said, *words in wanted:
         contains(refusal(*words, folder=folder), said)
     same(os.path.exists(new), False)
