@@ -30,9 +30,7 @@ use std::sync::Wait;
 use std::thread::Threads;
 use std::{env, io};
 
-mod bad_line;
 mod descriptors;
-mod kept;
 mod reading;
 mod serving;
 mod words;

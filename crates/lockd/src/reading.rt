@@ -1,10 +1,9 @@
 //! The commands that read standard input.
 
 use crate::descriptors::hold_closed_streams;
-use crate::kept::Kept;
 use crate::words::{tell_hex, tell_lines, tell_streams, tell_unconnected};
 use lockd_commands::{
-    CheckOptions, CommandFault, LocksOptions, Noting, Rules, Status, Watch, Watched, bytes_on,
+    CheckOptions, CommandFault, Kept, LocksOptions, Noting, Rules, Status, Watch, Watched, bytes_on,
     check_on, drive_on, locks_on, script_on,
 };
 use std::alloc::Global;

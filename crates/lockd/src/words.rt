@@ -1,7 +1,6 @@
 //! What `--verbose` adds on standard error.
 
-use crate::bad_line::{Why, why_bad, why_bad_hex};
-use lockd_commands::{CommandFault, Status, Watch};
+use lockd_commands::{CommandFault, Status, Watch, Why, why_bad, why_bad_hex};
 use lockd_serve::{Observer, Parting, Untraced};
 use std::fmt::{Display, Formatter};
 use std::fs::Files;

@@ -31,7 +31,8 @@ pub use bytes::bytes_on;
 pub use check::{CheckOptions, check_on};
 pub use drive::drive_on;
 pub use fl_core::Rules;
-pub use fl_order::OpKind;
-pub use lockd_faults::{CommandFault, Noting, Status, Watch, Watched};
+pub use lockd_faults::{
+    CommandFault, Kept, Noting, Status, Watch, Watched, Why, why_bad, why_bad_hex,
+};
 pub use locks::{LocksOptions, locks_on};
 pub use script::script_on;

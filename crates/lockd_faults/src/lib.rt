@@ -11,8 +11,10 @@
 //! `lockd_commands_tests` and the scripts in `tools` refuse these.
 #![tactic(auto)]
 
+mod bad_line;
 mod fault;
 mod hex_lines;
+mod kept;
 mod line_buffer;
 mod noting;
 mod printing;
@@ -21,8 +23,10 @@ mod streams;
 mod watched;
 mod witness;
 
+pub use bad_line::{Why, why_bad, why_bad_hex};
 pub use fault::{CommandFault, tell};
 pub use hex_lines::{push_line, read_line, split_line};
+pub use kept::Kept;
 pub use noting::Noting;
 pub use printing::print;
 pub use status::{Status, end};

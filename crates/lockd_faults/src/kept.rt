@@ -8,7 +8,7 @@ use std::io::{ErrorKind, Read};
 /// Reads what another reader has, and keeps it, if there is a text to keep it in; nothing, once memory runs out. It keeps
 /// why the last read that failed did so.
 #[derive(Drop)]
-pub(crate) struct Kept<R> {
+pub struct Kept<R> {
     input: R,
     text: Option<Vec<u8>>,
     failed: Option<ErrorKind>,
@@ -16,7 +16,7 @@ pub(crate) struct Kept<R> {
 
 impl<R: Read> Kept<R> {
     /// Nothing was read yet.
-    pub(crate) fn new(input: R, text: Option<Vec<u8>>) -> Kept<R>
+    pub fn new(input: R, text: Option<Vec<u8>>) -> Kept<R>
         ensures { result.input ≡ input }
     {
         Kept {
@@ -27,7 +27,7 @@ impl<R: Read> Kept<R> {
     }
 
     /// Why the last read that failed did so; none if none failed.
-    pub(crate) fn failed(&self) -> Option<ErrorKind> {
+    pub fn failed(&self) -> Option<ErrorKind> {
         self.failed
     }
 
@@ -45,7 +45,7 @@ impl<R: Read> Kept<R> {
     }
 
     /// The line of this number, from 1, with its newline if one ends it; none if it wasn't kept.
-    pub(crate) fn line(&self, number: usize) -> Option<&[u8]> {
+    pub fn line(&self, number: usize) -> Option<&[u8]> {
         let mut rest = self.text.as_ref()?.as_slice();
         for _ in 1..number {
             let end = rest.iter().position(|byte| *byte == b'\n')?;

@@ -1,6 +1,6 @@
 //! Why a line is bad, in words: of a trace, or of hex.
 
-use lockd_commands::OpKind;
+use fl_order::OpKind;
 use std::fmt;
 use std::fmt::{Display, Formatter};
 
@@ -22,7 +22,7 @@ const REPLIES: [&str; 7] = ["ok", "entry", "attr", "open", "made", "lock", "err"
 
 /// Why a line is bad.
 #[derive(Clone, Copy)]
-pub(crate) enum Why<'a> {
+pub enum Why<'a> {
     /// No newline ends it.
     Unended,
     /// No newline ends it, and it is that of a trace.
@@ -98,7 +98,7 @@ impl Display for Why<'_> {
 }
 
 /// Why a line is none of a trace, or of a script, if it takes no replies. It has its newline, if one ends it.
-pub(crate) fn why_bad(line: &[u8], takes_replies: bool) -> Why<'_> {
+pub fn why_bad(line: &[u8], takes_replies: bool) -> Why<'_> {
     let Some(text) = line.strip_suffix(b"\n") else {
         return if takes_replies {
             Why::CutOff
@@ -122,7 +122,7 @@ pub(crate) fn why_bad(line: &[u8], takes_replies: bool) -> Why<'_> {
 }
 
 /// Why a line is none of hex, and none that waits for replies. It has its newline, if one ends it.
-pub(crate) fn why_bad_hex(line: &[u8]) -> Why<'_> {
+pub fn why_bad_hex(line: &[u8]) -> Why<'_> {
     let Some(text) = line.strip_suffix(b"\n") else {
         return Why::Unended;
     };
