@@ -18,8 +18,9 @@
 ghost use Rattle.std.specs.Prelude.{IfOk};
 ghost use Rattle.lockd_cli.specs.Numbers.{HasWorkers};
 
+use host::Host;
 use lockd_cli::{Asked, CommandLine, UsageError, print_version, read_words};
-use lockd_commands::{CheckOptions, CommandFault, LocksOptions, Status};
+use lockd_commands::{CommandFault, Status};
 use reading::{bytes, check, drive, locks, script};
 use serving::{resume, serve};
 use std::fs::Files;
@@ -31,6 +32,7 @@ use std::thread::Threads;
 use std::{env, io};
 
 mod descriptors;
+mod host;
 mod reading;
 mod serving;
 mod words;
@@ -61,57 +63,30 @@ fn run<T: Threads + Wait + Net + Files + Sync>(
     requires workers { HasWorkers line.now.asked }
 {
     let verbose = line.verbose;
+    let host = Host { rt, verbose };
     match &line.asked {
-        Asked::Script(rules) => script(rt, *rules, verbose),
-        Asked::Bytes(rules) => bytes(rt, *rules, verbose),
-        Asked::Check { quiet, cut, rules } => {
-            let options = CheckOptions {
-                tells_quiet: *quiet,
-                cut: *cut,
-            };
-            check(rt, *rules, options, verbose)
-        }
+        Asked::Script(rules) => script(host, *rules),
+        Asked::Bytes(rules) => bytes(host, *rules),
+        Asked::Check { quiet, cut, rules } => check(host, *rules, *quiet, *cut),
         Asked::Locks {
             at,
             file,
             json,
             rules,
-        } => {
-            let options = LocksOptions {
-                at: at.map(|lines| lines as usize),
-                file: file.as_ref().map(|name| name.as_bytes()),
-                json: *json,
-            };
-            locks(rt, *rules, options, verbose)
-        }
+        } => locks(host, *rules, *at, file, *json),
         Asked::Serve {
             socket,
             workers,
             trace,
             rules,
-        } => serve(
-            rt,
-            threads,
-            socket.as_str(),
-            *workers,
-            trace,
-            *rules,
-            verbose,
-        ),
+        } => serve(host, threads, socket.as_str(), *workers, trace, *rules),
         Asked::Resume {
             socket,
             file,
             when_stuck,
             rules,
-        } => resume(
-            rt,
-            socket.as_str(),
-            file.as_str(),
-            *when_stuck,
-            *rules,
-            verbose,
-        ),
-        Asked::Drive(socket) => drive(rt, socket.as_str(), verbose),
+        } => resume(host, socket.as_str(), file.as_str(), *when_stuck, *rules),
+        Asked::Drive(socket) => drive(host, socket.as_str()),
         Asked::Version => version(&mut io::writer(rt), &mut rt.stderr()),
     }
 }

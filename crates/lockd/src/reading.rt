@@ -1,170 +1,171 @@
 //! The commands that read standard input.
 
 use crate::descriptors::hold_closed_streams;
+use crate::host::Host;
 use crate::words::{tell_hex, tell_lines, tell_streams, tell_unconnected};
 use lockd_commands::{
-    CheckOptions, CommandFault, Kept, LocksOptions, Noting, Rules, Status, Watch, Watched, bytes_on,
-    check_on, drive_on, locks_on, script_on,
+    CheckOptions, CommandFault, Kept, LocksOptions, Noting, Rules, Status, Watch, Watched,
+    bytes_on, check_on, drive_on, locks_on, script_on,
 };
-use std::alloc::Global;
 use std::io;
-use std::io::{ErrorKind, Read, Write};
+use std::io::{Printer, Read, Stderr};
 use std::path::Path;
 
 // What is read, in words.
 const INPUT: &str = "standard input";
 
 /// `lockd script`.
-pub(crate) fn script(rt: &HostRuntime, rules: Rules, verbose: bool) -> Status {
-    let alloc = rt.alloc();
-    let mut input = Watched::new(rt.reader(), orders_watched(alloc, verbose));
-    let mut output = Noting::new(io::writer(rt));
-    let mut faults = rt.stderr();
-    let status = script_on(alloc, rules, &mut input, &mut output, &mut faults);
-    if verbose {
-        tell_watched(&mut faults, status, &mut input, output.failed());
-    }
-    status
+pub(crate) fn script(host: Host<'_>, rules: Rules) -> Status {
+    let alloc = host.rt.alloc();
+    let mut io = Streams::new(host, Watched::new(host.rt.reader(), orders_watched(host)));
+    let status = script_on(alloc, rules, &mut io.input, &mut io.output, &mut io.faults);
+    io.end_watched(host, status)
 }
 
 /// `lockd check`.
-pub(crate) fn check(
-    rt: &HostRuntime,
-    rules: Rules,
-    options: CheckOptions,
-    verbose: bool,
-) -> Status {
-    let alloc = rt.alloc();
-    let mut input = Watched::new(
-        rt.reader(),
-        trace_watched(alloc, rules, usize::MAX, verbose),
+pub(crate) fn check(host: Host<'_>, rules: Rules, tells_quiet: bool, cut: bool) -> Status {
+    let alloc = host.rt.alloc();
+    let options = CheckOptions { tells_quiet, cut };
+    let watch = trace_watched(host, rules, usize::MAX);
+    let mut io = Streams::new(host, Watched::new(host.rt.reader(), watch));
+    let status = check_on(
+        alloc,
+        rules,
+        options,
+        &mut io.input,
+        &mut io.output,
+        &mut io.faults,
     );
-    let mut output = Noting::new(io::writer(rt));
-    let mut faults = rt.stderr();
-    let status = check_on(alloc, rules, options, &mut input, &mut output, &mut faults);
-    if verbose {
-        tell_watched(&mut faults, status, &mut input, output.failed());
-    }
-    status
+    io.end_watched(host, status)
 }
 
 /// `lockd locks`.
 pub(crate) fn locks(
-    rt: &HostRuntime,
+    host: Host<'_>,
     rules: Rules,
-    options: LocksOptions<'_>,
-    verbose: bool,
+    at: Option<u32>,
+    file: &Option<String>,
+    json: bool,
 ) -> Status {
-    let alloc = rt.alloc();
-    let lines = options.at.unwrap_or(usize::MAX);
-    let mut input = Watched::new(rt.reader(), trace_watched(alloc, rules, lines, verbose));
-    let mut output = Noting::new(io::writer(rt));
-    let mut faults = rt.stderr();
-    let status = locks_on(alloc, rules, options, &mut input, &mut output, &mut faults);
-    if verbose {
-        tell_watched(&mut faults, status, &mut input, output.failed());
-    }
-    status
+    let alloc = host.rt.alloc();
+    let options = LocksOptions {
+        at: at.map(|lines| lines as usize),
+        file: file.as_ref().map(|name| name.as_bytes()),
+        json,
+    };
+    let watch = trace_watched(host, rules, options.at.unwrap_or(usize::MAX));
+    let mut io = Streams::new(host, Watched::new(host.rt.reader(), watch));
+    let status = locks_on(
+        alloc,
+        rules,
+        options,
+        &mut io.input,
+        &mut io.output,
+        &mut io.faults,
+    );
+    io.end_watched(host, status)
 }
 
 /// `lockd bytes`.
-pub(crate) fn bytes(rt: &HostRuntime, rules: Rules, verbose: bool) -> Status {
-    let alloc = rt.alloc();
-    let mut input = Kept::new(rt.reader(), room(alloc, verbose));
-    let mut output = Noting::new(io::writer(rt));
-    let mut faults = rt.stderr();
-    let status = bytes_on(alloc, rules, &mut input, &mut output, &mut faults);
-    if verbose {
-        tell_kept(&mut faults, status, &input, output.failed());
-    }
-    status
+pub(crate) fn bytes(host: Host<'_>, rules: Rules) -> Status {
+    let alloc = host.rt.alloc();
+    let mut io = Streams::new(host, Kept::new(host.rt.reader(), room(host)));
+    let status = bytes_on(alloc, rules, &mut io.input, &mut io.output, &mut io.faults);
+    io.end_kept(host, status)
 }
 
 /// `lockd drive`.
-pub(crate) fn drive(rt: &HostRuntime, socket: &str, verbose: bool) -> Status {
-    hold_closed_streams(rt);
-    let alloc = rt.alloc();
-    let path = Path::new(socket);
-    let mut input = Kept::new(rt.reader(), room(alloc, verbose));
-    let mut output = Noting::new(io::writer(rt));
-    let mut faults = rt.stderr();
+pub(crate) fn drive(host: Host<'_>, socket: &str) -> Status {
+    hold_closed_streams(host.rt);
+    let mut io = Streams::new(host, Kept::new(host.rt.reader(), room(host)));
     let mut why = None;
     let status = drive_on(
-        rt,
-        alloc,
-        path,
-        &mut input,
-        &mut output,
-        &mut faults,
+        host.rt,
+        host.rt.alloc(),
+        Path::new(socket),
+        &mut io.input,
+        &mut io.output,
+        &mut io.faults,
         &mut why,
     );
-    if verbose {
-        tell_kept(&mut faults, status, &input, output.failed());
-        tell_driven(rt, status, socket, &why, &mut faults);
+    let status = io.end_kept(host, status);
+    if host.verbose && status == Status::Faulted(CommandFault::Connect) {
+        tell_unconnected(&mut io.faults, host.rt, socket, &why);
     }
     status
 }
 
 // What is looked for in a script, if more is to be said of it.
-fn orders_watched(alloc: Global, verbose: bool) -> Option<Watch> {
-    if verbose {
-        Some(Watch::of_orders(alloc))
+fn orders_watched(host: Host<'_>) -> Option<Watch> {
+    if host.verbose {
+        Some(Watch::of_orders(host.rt.alloc()))
     } else {
         None
     }
 }
 
 // What is looked for in so many lines of a trace, if more is to be said of them.
-fn trace_watched(alloc: Global, rules: Rules, lines: usize, verbose: bool) -> Option<Watch> {
-    if verbose {
-        Watch::of_trace(alloc, rules, lines).ok()
+fn trace_watched(host: Host<'_>, rules: Rules, lines: usize) -> Option<Watch> {
+    if host.verbose {
+        Watch::of_trace(host.rt.alloc(), rules, lines).ok()
     } else {
         None
     }
 }
 
 // Where lines of hex are kept, if more is to be said of them.
-fn room(alloc: Global, verbose: bool) -> Option<Vec<u8>> {
-    if verbose { Some(Vec::new(alloc)) } else { None }
-}
-
-// Says more of how a command ended that read a script or a trace.
-fn tell_watched<F: Write, R: Read>(
-    faults: &mut F,
-    status: Status,
-    input: &mut Watched<R>,
-    unwritten: Option<ErrorKind>,
-) {
-    tell_streams(faults, status, input.failed(), unwritten);
-    if let Some(watch) = input.seen() {
-        tell_lines(faults, status, INPUT, watch);
+fn room(host: Host<'_>) -> Option<Vec<u8>> {
+    if host.verbose {
+        Some(Vec::new(host.rt.alloc()))
+    } else {
+        None
     }
 }
 
-// Says more of how a command ended that read lines of hex.
-fn tell_kept<F: Write, R: Read>(
-    faults: &mut F,
-    status: Status,
-    input: &Kept<R>,
-    unwritten: Option<ErrorKind>,
-) {
-    tell_streams(faults, status, input.failed(), unwritten);
-    if let Status::Faulted(CommandFault::BadLine(n)) = status {
-        if let Some(line) = input.line(n) {
-            tell_hex(faults, INPUT, n, line);
+// What a command reads and writes.
+#[derive(Drop)]
+struct Streams<'a, I> {
+    input: I,
+    output: Noting<Printer<'a, HostRuntime>>,
+    faults: Stderr,
+}
+
+impl<'a, I> Streams<'a, I> {
+    fn new(host: Host<'a>, input: I) -> Streams<'a, I> {
+        Streams {
+            input,
+            output: Noting::new(io::writer(host.rt)),
+            faults: host.rt.stderr(),
         }
     }
 }
 
-// Says more of a client that was not connected, for this reason.
-fn tell_driven<F: Write>(
-    rt: &HostRuntime,
-    status: Status,
-    socket: &str,
-    why: &Option<io::Error>,
-    faults: &mut F,
-) {
-    if status == Status::Faulted(CommandFault::Connect) {
-        tell_unconnected(faults, rt, socket, why);
+impl<R: Read> Streams<'_, Watched<R>> {
+    // Says more, if that is asked for, of a command that read a script or a trace, and ended so.
+    fn end_watched(&mut self, host: Host<'_>, status: Status) -> Status {
+        if host.verbose {
+            let faults = &mut self.faults;
+            tell_streams(faults, status, self.input.failed(), self.output.failed());
+            if let Some(watch) = self.input.seen() {
+                tell_lines(faults, status, INPUT, watch);
+            }
+        }
+        status
+    }
+}
+
+impl<R: Read> Streams<'_, Kept<R>> {
+    // Says more, if that is asked for, of a command that read lines of hex, and ended so.
+    fn end_kept(&mut self, host: Host<'_>, status: Status) -> Status {
+        if host.verbose {
+            let faults = &mut self.faults;
+            tell_streams(faults, status, self.input.failed(), self.output.failed());
+            if let Status::Faulted(CommandFault::BadLine(n)) = status {
+                if let Some(line) = self.input.line(n) {
+                    tell_hex(faults, INPUT, n, line);
+                }
+            }
+        }
+        status
     }
 }

@@ -6,6 +6,7 @@ ghost use Rattle.lockd.specs.Inside.{AsksFile, AsksRefusal, GoesWhere};
 ghost use Rattle.lockd_serve.specs.Ending.{Ends};
 
 use crate::descriptors::hold_closed_streams;
+use crate::host::Host;
 use crate::words::{ServerWords, tell_lines};
 use lockd_cli::{Trace, WhenFull, WhenStuck};
 use lockd_commands::{CommandFault, Noting, Rules, Status, Watch, Watched};
@@ -14,7 +15,7 @@ use lockd_serve::{
     end_unopened, end_without_file, is_at, is_unused, resume_on, serve_on,
 };
 use std::fs::{File, Files, OpenOptions};
-use std::io::{Read, Stderr, Write};
+use std::io::{ErrorKind, Read, Stderr, Write};
 use std::net::Net;
 use std::path::Path;
 use std::sync::Wait;
@@ -29,18 +30,18 @@ type Words<'a> = ServerWords<'a, HostRuntime, Stderr>;
 
 /// `lockd serve`. `threads` is the runtime too: only `main` has the right to start threads and to wait.
 pub(crate) fn serve<T: Threads + Wait + Net + Files + Sync>(
-    rt: &HostRuntime,
+    host: Host<'_>,
     threads: &T,
     socket: &str,
     workers: u32,
     trace: &Trace,
     rules: Rules,
-    verbose: bool,
 ) -> Status
     requires workers { (0 < workers) × (workers ≤ 16) }
 {
+    let rt = host.rt;
     hold_closed_streams(rt);
-    let mut words = server_words(rt, verbose, socket, file_of(trace));
+    let mut words = server_words(host, socket, file_of(trace));
     let to = match opened(rt, trace, &mut rt.stderr(), &mut words) {
         Ok(to) => to,
         Err(status) => return status,
@@ -78,29 +79,34 @@ fn serve_opened<T: Threads + Wait + Net + Files + Sync>(
         words,
     );
     words.printed(status, output.failed());
-    remove_unused(rt, trace, status);
+    if let Trace::File(file, _) = trace {
+        remove_unused(rt, file.as_str(), status);
+    }
     end_traced(rt, trace, written, status, &mut faults, words)
 }
 
 /// `lockd serve --resume`.
 pub(crate) fn resume(
-    rt: &HostRuntime,
+    host: Host<'_>,
     socket: &str,
     file: &str,
     when: WhenStuck,
     rules: Rules,
-    verbose: bool,
 ) -> Status {
+    let rt = host.rt;
     hold_closed_streams(rt);
-    let mut words = server_words(rt, verbose, socket, file);
-    let trace = match opened_behind(rt, file) {
-        Ok(trace) => trace,
+    let mut words = server_words(host, socket, file);
+    let (trace, is_new) = match opened_behind(rt, file) {
+        Ok(opened) => opened,
         Err(why) => {
             return end_unopened(&mut rt.stderr(), &mut words, Untraced::Unopened(why));
         }
     };
     let status = resume_opened(rt, socket, rules, trace, file, when, &mut words);
-    if verbose {
+    if is_new && is_empty(rt, file) {
+        remove_unused(rt, file, status);
+    }
+    if host.verbose {
         tell_file(rt, file, rules, status, &mut rt.stderr());
     }
     status
@@ -132,13 +138,13 @@ fn resume_opened(
 }
 
 // Says more of a server at this socket, whose trace's file is at this path, if that is asked for.
-fn server_words<'a>(
-    rt: &'a HostRuntime,
-    verbose: bool,
-    socket: &'a str,
-    file: &'a str,
-) -> Words<'a> {
-    let to = if verbose { Some(rt.stderr()) } else { None };
+fn server_words<'a>(host: Host<'a>, socket: &'a str, file: &'a str) -> Words<'a> {
+    let rt = host.rt;
+    let to = if host.verbose {
+        Some(rt.stderr())
+    } else {
+        None
+    };
     ServerWords::new(rt, to, socket, file)
 }
 
@@ -224,14 +230,18 @@ fn made(rt: &HostRuntime, path: &str) -> io::Result<File> {
         .open(rt, Path::new(path))
 }
 
-// The file at a path, which is made if there is none. What is written goes behind what it has.
-fn opened_behind(rt: &HostRuntime, path: &str) -> io::Result<File> {
+// The file at a path, which is made if there is none, and whether it was. What is written goes behind what it has.
+fn opened_behind(rt: &HostRuntime, path: &str) -> io::Result<(File, bool)> {
+    let path = Path::new(path);
     let mut options = OpenOptions::new();
-    options
-        .read(true)
-        .append(true)
-        .create(true)
-        .open(rt, Path::new(path))
+    options.read(true).append(true);
+    match options.create_new(true).open(rt, path) {
+        Err(error) if error.kind() == ErrorKind::AlreadyExists => {
+            let file = options.create_new(false).create(true).open(rt, path)?;
+            Ok((file, false))
+        }
+        made => Ok((made?, true)),
+    }
 }
 
 // Ends a server with this status. If its trace's file was removed or replaced, that is told.
@@ -254,13 +264,18 @@ fn end_traced<F: Write>(
     }
 }
 
-// Takes the trace's file away if no session was served.
-fn remove_unused(rt: &HostRuntime, trace: &Trace, status: Status) {
-    match trace {
-        Trace::File(file, _) if is_unused(status) => {
-            let _ = fs::remove_file(rt, Path::new(file.as_str()));
-        }
-        _ => {}
+// Whether the file at a path has nothing.
+fn is_empty(rt: &HostRuntime, path: &str) -> bool {
+    match fs::metadata(rt, Path::new(path)) {
+        Ok(found) => found.len() == 0,
+        Err(_) => false,
+    }
+}
+
+// Takes away the file that was made for a trace, if no session was served.
+fn remove_unused(rt: &HostRuntime, file: &str, status: Status) {
+    if is_unused(status) {
+        let _ = fs::remove_file(rt, Path::new(file));
     }
 }
 

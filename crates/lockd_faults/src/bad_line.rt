@@ -17,28 +17,21 @@ const ASKED: [u64; 6] = [
     u32::MAX as u64,
 ];
 
+// The greatest numbers behind `create`: whether a file that is there is an error, and permissions.
+const CREATED: [u64; 2] = [1, 0o777];
+
 // What may stand behind the unique of a reply.
 const REPLIES: [&str; 7] = ["ok", "entry", "attr", "open", "made", "lock", "err"];
 
 /// Why a line is bad.
 #[derive(Clone, Copy)]
 pub enum Why<'a> {
-    /// No newline ends it.
-    Unended,
-    /// No newline ends it, and it is that of a trace.
-    CutOff,
-    /// It has no words.
-    Empty,
-    /// It is longer than any line.
-    Long,
+    /// For this reason.
+    Said(&'static str),
     /// It has this byte, which stands in none.
     Byte(u8),
-    /// It has a space too many.
-    Space,
     /// It begins with this word.
     Begins(&'a str),
-    /// It ends before its order or its reply.
-    Short,
     /// This word is no number.
     NoNumber(&'a str),
     /// This number has a zero in front.
@@ -51,32 +44,16 @@ pub enum Why<'a> {
     Reply(&'a str),
     /// What stands behind this name doesn't fit.
     Fields(&'a str),
-    /// It is a reply, and only orders may stand here.
-    Told,
     /// It has this byte, which is no hex digit.
     NoDigit(u8),
-    /// It has a digit too few.
-    Odd,
-    /// It waits for no replies.
-    Nothing,
 }
 
 impl Display for Why<'_> {
     fn fmt<W: fmt::Write>(&self, f: &mut Formatter<W>) -> fmt::Result {
         match self {
-            Why::Unended => f.write_str("no newline ends it"),
-            Why::CutOff => f.write_str(
-                "no newline ends it: check --cut drops the end of a trace that was cut off",
-            ),
-            Why::Empty => f.write_str("it is empty"),
-            Why::Long => f.write_str("it is longer than any line of a trace"),
-            Why::Byte(13) => f.write_str(
-                "it has a carriage return: lines end with a newline alone",
-            ),
+            Why::Said(reason) => f.write_str(reason),
             Why::Byte(byte) => write!(f, "it has the byte {byte}, which stands in no line"),
-            Why::Space => f.write_str("one space stands between words, and none at the ends"),
             Why::Begins(word) => write!(f, "it begins with {word}, and with neither ask nor tell"),
-            Why::Short => f.write_str("words are missing at its end"),
             Why::NoNumber(word) => write!(f, "{word} is no number"),
             Why::Zero(word) => write!(f, "{word} has a zero in front"),
             Why::Great(word, most) => write!(f, "{word} is too great: the most is {most}"),
@@ -86,37 +63,54 @@ impl Display for Why<'_> {
                 f,
                 "what stands behind {word} doesn't fit: see docs/TRACE.md"
             ),
-            Why::Told => f.write_str("a script has orders alone: leave out the replies"),
             Why::NoDigit(byte) => {
                 let byte = char::from(*byte);
                 write!(f, "{byte} is no hex digit")
             }
-            Why::Odd => f.write_str("it has an odd number of hex digits"),
-            Why::Nothing => f.write_str("recv waits for 1 to 1000 replies"),
         }
     }
 }
 
+const UNENDED: Why<'_> = Why::Said("no newline ends it");
+
+const CUT_OFF: Why<'_> = Why::Said(
+    "no newline ends it: check --cut drops the end of a trace that was cut off",
+);
+
+const TOLD: Why<'_> = Why::Said("a script has orders alone: leave out the replies");
+
+const EMPTY: Why<'_> = Why::Said("it is empty");
+
+const LONG: Why<'_> = Why::Said("it is longer than any line of a trace");
+
+const RETURN: Why<'_> = Why::Said("it has a carriage return: lines end with a newline alone");
+
+const SPACE: Why<'_> = Why::Said("one space stands between words, and none at the ends");
+
+const SHORT: Why<'_> = Why::Said("words are missing at its end");
+
+const UPPER: Why<'_> = Why::Said("the name of a file is written in lower case hex");
+
+const ODD: Why<'_> = Why::Said("it has an odd number of hex digits");
+
+const NO_REPLIES: Why<'_> = Why::Said("recv waits for 1 to 1000 replies");
+
 /// Why a line is none of a trace, or of a script, if it takes no replies. It has its newline, if one ends it.
 pub fn why_bad(line: &[u8], takes_replies: bool) -> Why<'_> {
     let Some(text) = line.strip_suffix(b"\n") else {
-        return if takes_replies {
-            Why::CutOff
-        } else {
-            Why::Unended
-        };
+        return if takes_replies { CUT_OFF } else { UNENDED };
     };
     if !takes_replies && text.starts_with(b"tell ") {
-        return Why::Told;
+        return TOLD;
     }
     if text.is_empty() {
-        return Why::Empty;
+        return EMPTY;
     }
     if text.len() >= TOO_LONG {
-        return Why::Long;
+        return LONG;
     }
     match odd_byte(text) {
-        Some(byte) => Why::Byte(byte),
+        Some(why) => why,
         None => why_words(str::from_utf8(text).unwrap_or("")),
     }
 }
@@ -124,29 +118,32 @@ pub fn why_bad(line: &[u8], takes_replies: bool) -> Why<'_> {
 /// Why a line is none of hex, and none that waits for replies. It has its newline, if one ends it.
 pub fn why_bad_hex(line: &[u8]) -> Why<'_> {
     let Some(text) = line.strip_suffix(b"\n") else {
-        return Why::Unended;
+        return UNENDED;
     };
-    if let Some(byte) = odd_byte(text) {
-        return Why::Byte(byte);
+    if let Some(why) = odd_byte(text) {
+        return why;
     }
     if let Some(count) = text.strip_prefix(b"recv ") {
         let word = str::from_utf8(count).unwrap_or("");
-        return why_number(word, 1000).unwrap_or(Why::Nothing);
+        return why_number(word, 1000).unwrap_or(NO_REPLIES);
     }
     match text.iter().copied().find(|byte| !byte.is_ascii_hexdigit()) {
         Some(byte) => Why::NoDigit(byte),
-        None => Why::Odd,
+        None => ODD,
     }
 }
 
-// The first byte that stands in no line.
-fn odd_byte(text: &[u8]) -> Option<u8> {
-    text.iter().copied().find(|byte| *byte < 32 || *byte > 126)
+// The first byte that stands in no line, if there is one.
+fn odd_byte(text: &[u8]) -> Option<Why<'_>> {
+    match text.iter().copied().find(|byte| *byte < 32 || *byte > 126)? {
+        b'\r' => Some(RETURN),
+        byte => Some(Why::Byte(byte)),
+    }
 }
 
 fn why_words(text: &str) -> Why<'_> {
     if text.starts_with(' ') || text.ends_with(' ') || text.contains("  ") {
-        return Why::Space;
+        return SPACE;
     }
     let (word, rest) = first_word(text);
     match word {
@@ -161,34 +158,53 @@ fn first_word(text: &str) -> (&str, &str) {
     text.split_once(' ').unwrap_or((text, ""))
 }
 
-fn why_asked(text: &str) -> Why<'_> {
+// What stands behind numbers up to these, or why they don't stand there.
+fn behind_numbers<'a>(text: &'a str, greatest: &[u64]) -> Result<&'a str, Why<'a>> {
     let mut rest = text;
-    for most in ASKED {
+    for most in greatest {
         let (word, behind) = first_word(rest);
-        if let Some(why) = why_number(word, most) {
-            return why;
+        if let Some(why) = why_number(word, *most) {
+            return Err(why);
         }
         rest = behind;
     }
+    Ok(rest)
+}
+
+fn why_asked(text: &str) -> Why<'_> {
+    let rest = match behind_numbers(text, &ASKED) {
+        Ok(rest) => rest,
+        Err(why) => return why,
+    };
     let (word, fields) = first_word(rest);
     if word.is_empty() {
-        return Why::Short;
+        return SHORT;
     }
     match OpKind::of_word(word) {
-        Some(OpKind::Create | OpKind::Lookup | OpKind::Unlink) => Why::Fields(word),
+        Some(OpKind::Create) => why_named(word, &CREATED, fields),
+        Some(OpKind::Lookup | OpKind::Unlink) => why_named(word, &[], fields),
         Some(kind) if kind.shape().is_ok() => why_fields(word, fields),
         _ => Why::Order(word),
     }
 }
 
-fn why_told(text: &str) -> Why<'_> {
-    let (unique, rest) = first_word(text);
-    if let Some(why) = why_number(unique, u64::MAX) {
-        return why;
+// Why numbers up to these and the name of a file don't fit behind the name of an order.
+fn why_named<'a>(order: &'a str, greatest: &[u64], fields: &'a str) -> Why<'a> {
+    match behind_numbers(fields, greatest) {
+        Err(why) => why,
+        Ok(name) if name.bytes().any(|byte| byte.is_ascii_uppercase()) => UPPER,
+        Ok(_) => Why::Fields(order),
     }
+}
+
+fn why_told(text: &str) -> Why<'_> {
+    let rest = match behind_numbers(text, &[u64::MAX]) {
+        Ok(rest) => rest,
+        Err(why) => return why,
+    };
     let (word, fields) = first_word(rest);
     if word.is_empty() {
-        return Why::Short;
+        return SHORT;
     }
     if REPLIES.iter().any(|name| *name == word) {
         return why_fields(word, fields);
@@ -200,13 +216,12 @@ fn why_told(text: &str) -> Why<'_> {
 fn why_fields<'a>(name: &'a str, fields: &'a str) -> Why<'a> {
     let mut rest = fields;
     for _ in 0..fields.len() {
+        if rest.is_empty() {
+            break;
+        }
         let (word, behind) = first_word(rest);
         if let Some(why) = why_number(word, u64::MAX) {
-            return if word.is_empty() {
-                Why::Fields(name)
-            } else {
-                why
-            };
+            return why;
         }
         rest = behind;
     }
@@ -217,7 +232,7 @@ fn why_fields<'a>(name: &'a str, fields: &'a str) -> Why<'a> {
 fn why_number(word: &str, most: u64) -> Option<Why<'_>> {
     let bytes = word.as_bytes();
     if bytes.is_empty() {
-        return Some(Why::Short);
+        return Some(SHORT);
     }
     if !bytes.iter().all(|byte| byte.is_ascii_digit()) {
         return Some(Why::NoNumber(word));

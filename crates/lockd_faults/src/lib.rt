@@ -1,13 +1,14 @@
 //! How a command ends, and what it tells; whole inputs and outputs; a trace that is printed; lines of a text and
-//! lines of hex; a reader and a writer that keep what went wrong.
+//! lines of hex; a reader and a writer that keep what went wrong; why a line is bad, in words.
 //!
 //! `tell` and `end` wrote the fault's line or a beginning of it, the empty one too, and their signatures give them no
 //! memory. Contracts see no failure of a reader or a writer. They let through:
 //! - a `read_all`, a `write_all`, a `print` or a `read_line` that is always refused;
 //! - a `write_all` or a `print` that doesn't flush its output, or takes a flush that failed for a good one;
 //! - a `tell` that tells nothing;
-//! - a `Watch` that sees other lines than were read, counts them wrongly, or finds another line or reply; a `Watched` or
-//!   a `Noting` that keeps another reason.
+//! - a `Watch` that sees other lines than were read, counts them wrongly, or finds another line or reply; a `Watched`, a
+//!   `Kept` or a `Noting` that keeps another reason, a `Kept` that keeps another text;
+//! - a `why_bad` or a `why_bad_hex` that gives another reason.
 //! `lockd_commands_tests` and the scripts in `tools` refuse these.
 #![tactic(auto)]
 
