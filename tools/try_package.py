@@ -52,10 +52,12 @@ def installs():
 
 
 def try_lintian_finds_no_error():
+    """Its warnings are said, and fail nothing: another version has others."""
     if not shutil.which("lintian"):
-        return "lintian isn't installed"
+        return "not tried, since lintian isn't installed"
     ran = subprocess.run(["lintian", "--allow-root", "--fail-on", "error", the_package()], capture_output=True, text=True, timeout=PATIENCE)
-    return same((ran.returncode, ran.stdout if ran.returncode else ""), (0, ""))
+    same((ran.returncode, ran.stdout + ran.stderr if ran.returncode else ""), (0, ""))
+    return ran.stdout.strip().replace("\n", "; ")
 
 
 def try_what_is_installed():
@@ -72,11 +74,15 @@ def try_what_is_installed():
         same(file.readline(), f"lockd ({VERSION}) unstable; urgency=medium\n")
 
 
-def try_the_man_page_names_each_option():
-    with gzip.open(f"{ROOT}/usr/share/man/man8/lockd_mount.8.gz", "rt", encoding="utf-8") as file:
-        page = {*re.findall(r"--[a-z][a-z-]*", file.read().replace("\\-", "-"))}
-    same(sorted(page - {*re.findall(r"--[a-z][a-z-]*", printed("lockd_mount", "--help"))}), [])
-    same(sorted({*re.findall(r"--[a-z][a-z-]*", printed("lockd_mount", "--help"))} - page), [])
+def try_each_man_page_names_the_options():
+    """Those of `lockd` are compared by tools/check_man."""
+    for name, section in ("lockd_mount", 8), ("lockd_locks", 1), ("lockd_report", 1):
+        if section == 1 and not os.path.exists(f"{ROOT}/usr/bin/python3"):
+            continue
+        with gzip.open(f"{ROOT}/usr/share/man/man{section}/{name}.{section}.gz", "rt", encoding="utf-8") as file:
+            options = re.search(r"^\.SH OPTIONS\n(.*?)^\.SH ", re.sub(r"\\f.|\\(?=-)", "", file.read()), re.M | re.S)[1]
+        named, helped = ({*re.findall(r"(?<![\w-])--?[a-z][a-z-]*", it)} for it in (options, printed(name, "--help")))
+        same((name, sorted(named ^ helped)), (name, []))
 
 
 def try_what_readme_says():
