@@ -231,18 +231,81 @@ def try_tools_install():
     is_as_before()
 
 
-def try_tools_install_touches_no_file_of_others():
-    """One that is there before, and one that was changed."""
-    page = "/usr/local/share/man/man1/lockd.1"
-    install("/usr/local")
+LIST = "/usr/local/share/lockd/installed"
+PAGE = "/usr/local/share/man/man1/lockd.1"
+
+
+def changes(page):
+    """The user changes an installed file. What it was."""
+    before = text_of(f"{ROOT}{page}")
     put(page, "of another\n")
-    for words, status, said in (("/usr/local",), 2, "is in the way"), (("--uninstall", "/usr/local"), 1, "it stays"), (("/usr/local",), 2, "is in the way"):
-        told = install(*words, status=status)
-        same((f"{ROOT}{page} " in told, said in told, told.count("\n"), text_of(f"{ROOT}{page}")), (True, True, 1, "of another\n"))
-    same([it for it in below(f"{ROOT}/usr/local") if not os.path.isdir(it)], [f"{ROOT}{page}"])
-    os.remove(f"{ROOT}{page}")
-    os.removedirs(os.path.dirname(f"{ROOT}{page}"))
+    return before
+
+
+def names_what_stays(page, *words, status, said):
+    told = install(*words, status=status)
+    same((f"{ROOT}{page} " in told, said in told, told.count("\n"), text_of(f"{ROOT}{page}")), (True, True, 1, "of another\n"))
+
+
+def files_of(prefix):
+    return sorted(it[len(ROOT):] for it in below(f"{ROOT}{prefix}") if not os.path.isdir(it))
+
+
+def try_tools_install_touches_no_file_of_others():
+    """One that is there before, and one that was changed. The list keeps that one, and removes it once it is as it was again."""
+    install("/usr/local")
+    line, before = f"{hashlib.sha256(text_of(f'{ROOT}{PAGE}').encode()).hexdigest()} {PAGE}", changes(PAGE)
+    for words, status, said in [(("/usr/local",), 2, "is in the way"), (("--uninstall", "/usr/local"), 1, "it stays")] * 2:
+        names_what_stays(PAGE, *words, status=status, said=said)
+    same(files_of("/usr/local"), [LIST, PAGE])
+    folders = [f"folder {it[len(ROOT):]}" for it in below(f"{ROOT}/usr/local") if os.path.isdir(it)]
+    same(sorted(text_of(f"{ROOT}{LIST}").splitlines()), sorted([line, *folders]))
+    put(PAGE, before)
+    install("--uninstall", "/usr/local")
     is_as_before()
+
+
+def try_a_changed_file_that_the_user_removes():
+    """After an uninstallation; the list goes with it."""
+    install("/usr/local")
+    changes(PAGE)
+    install("--uninstall", "/usr/local", status=1)
+    os.remove(f"{ROOT}{PAGE}")
+    install("--uninstall", "/usr/local")
+    is_as_before()
+
+
+def try_a_changed_file_that_a_newer_installation_lacks():
+    """It stays, and the list has it, also after the next installation."""
+    older = "/usr/local/share/lockd/of_an_older_one"
+    install("/usr/local")
+    put(older, "as it was\n")
+    with open(f"{ROOT}{LIST}", "a", encoding="utf-8") as file:
+        file.write(f"{hashlib.sha256(text_of(f'{ROOT}{older}').encode()).hexdigest()} {older}\n")
+    before = changes(older)
+    for _ in range(2):
+        ran = subprocess.run([f"{TOP}/tools/install", "/usr/local", ROOT], capture_output=True, text=True, timeout=PATIENCE)
+        same((ran.returncode, ran.stderr), (0, f"install: {ROOT}{older} isn't as this script installed it: it stays\n"))
+    names_what_stays(older, "--uninstall", "/usr/local", status=1, said="it stays")
+    same(files_of("/usr/local"), [LIST, older])
+    put(older, before)
+    install("--uninstall", "/usr/local")
+    is_as_before()
+
+
+def try_a_list_without_checksums():
+    """The line names the command that removes what it has."""
+    os.makedirs(f"{ROOT}/usr/local/share/lockd")
+    put("usr/local/share/lockd/other", "")
+    put(LIST, "".join(f"/usr/local/share/{it}\n" for it in ("", "lockd/", "lockd/other")))
+    for words in ("/usr/local",), ("--uninstall", "/usr/local"):
+        told = install(*words, status=2)
+        same((told.startswith(f"install: {ROOT}{LIST} has no checksums"), told.count("\n"), files_of("/usr/local")), (True, 1, [LIST, "/usr/local/share/lockd/other"]))
+    if subprocess.run(["git", "-C", TOP, "cat-file", "-e", re.search(r" show (\w+):", told)[1]], capture_output=True).returncode:
+        shutil.rmtree(f"{ROOT}/usr/local/share")
+        return "the commit that it names isn't in this clone"
+    subprocess.run(["sh", "-c", told.partition(" by: ")[2]], check=True, timeout=PATIENCE)
+    return is_as_before()
 
 
 def try_tools_install_and_the_package():
