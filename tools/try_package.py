@@ -1,5 +1,5 @@
 """What tools/try_package runs in its namespace: each function whose name begins with `try_` is one thing that is tried, in this order."""
-import glob, gzip, hashlib, os, re, shlex, shutil, stat, subprocess, sys, tempfile, time, traceback
+import contextlib, glob, gzip, hashlib, os, re, shlex, shutil, stat, subprocess, sys, tempfile, time, traceback
 
 sys.dont_write_bytecode = True
 from try_package_kit import *
@@ -106,6 +106,33 @@ def try_what_mount_refuses():
     shutil.rmtree(f"{ROOT}/srv/locks")
     until_all_have_ended()
     same(glob.glob(f"{ROOT}/tmp/*"), [])
+
+
+def try_mounts_that_begin_in_one_second():
+    """Two at a time, and twice, by a clock that stands still: each FILE has a name of its own."""
+    os.mkdir(f"{ROOT}/usr/local/bin")
+    put("usr/local/bin/date", "#!/bin/sh\necho 1000\n")
+    os.chmod(f"{ROOT}/usr/local/bin/date", 0o755)
+    os.mkdir(f"{ROOT}/srv/traces")
+    folders = "/srv/one", "/srv/two"
+    for folder in folders:
+        os.mkdir(f"{ROOT}{folder}")
+    for count in 2, 4:
+        with contextlib.ExitStack() as stack:
+            begun = [stack.enter_context(started("mount", "-t", "fuse.lockd", "-o", "resume=/srv/traces/trace,times=/srv/traces/times", "none", it,
+                                                 stderr=subprocess.STDOUT)) for it in folders]
+            same([(it.wait(timeout=60), it.stdout.read()) for it in begun], [(0, b"")] * 2)
+        for folder in folders:
+            printed("flock", f"{folder}/job", "true")
+            printed("umount", folder)
+        until_all_have_ended()
+        for kind in "trace", "times":
+            files = glob.glob(f"{ROOT}/srv/traces/{kind}.1000*")
+            same((len(files), all(map(os.path.getsize, files))), (count, True))
+    for it in "/usr/local/bin/date", *(f"/srv/traces/{it}" for it in os.listdir(f"{ROOT}/srv/traces")):
+        os.remove(f"{ROOT}{it}")
+    for it in "/usr/local/bin", "/srv/traces", *folders:
+        os.rmdir(f"{ROOT}{it}")
 
 
 def try_an_upgrade_while_a_lock_is_held():
