@@ -1,5 +1,5 @@
 """What tools/try_package runs in its namespace: each function whose name begins with `try_` is one thing that is tried, in this order."""
-import glob, gzip, hashlib, os, re, shlex, shutil, stat, subprocess, sys, tempfile, time, traceback
+import contextlib, glob, gzip, hashlib, os, re, shlex, shutil, stat, subprocess, sys, tempfile, time, traceback
 
 sys.dont_write_bytecode = True
 from try_package_kit import *
@@ -52,10 +52,12 @@ def installs():
 
 
 def try_lintian_finds_no_error():
+    """Its warnings are said, and fail nothing: another version has others."""
     if not shutil.which("lintian"):
-        return "lintian isn't installed"
+        return "not tried, since lintian isn't installed"
     ran = subprocess.run(["lintian", "--allow-root", "--fail-on", "error", the_package()], capture_output=True, text=True, timeout=PATIENCE)
-    return same((ran.returncode, ran.stdout if ran.returncode else ""), (0, ""))
+    same((ran.returncode, ran.stdout + ran.stderr if ran.returncode else ""), (0, ""))
+    return ran.stdout.strip().replace("\n", "; ")
 
 
 def try_what_is_installed():
@@ -72,11 +74,15 @@ def try_what_is_installed():
         same(file.readline(), f"lockd ({VERSION}) unstable; urgency=medium\n")
 
 
-def try_the_man_page_names_each_option():
-    with gzip.open(f"{ROOT}/usr/share/man/man8/lockd_mount.8.gz", "rt", encoding="utf-8") as file:
-        page = {*re.findall(r"--[a-z][a-z-]*", file.read().replace("\\-", "-"))}
-    same(sorted(page - {*re.findall(r"--[a-z][a-z-]*", printed("lockd_mount", "--help"))}), [])
-    same(sorted({*re.findall(r"--[a-z][a-z-]*", printed("lockd_mount", "--help"))} - page), [])
+def try_each_man_page_names_the_options():
+    """Those of `lockd` are compared by tools/check_man."""
+    for name, section in ("lockd_mount", 8), ("lockd_locks", 1), ("lockd_report", 1):
+        if section == 1 and not os.path.exists(f"{ROOT}/usr/bin/python3"):
+            continue
+        with gzip.open(f"{ROOT}/usr/share/man/man{section}/{name}.{section}.gz", "rt", encoding="utf-8") as file:
+            options = re.search(r"^\.SH OPTIONS\n(.*?)^\.SH ", re.sub(r"\\f.|\\(?=-)", "", file.read()), re.M | re.S)[1]
+        named, helped = ({*re.findall(r"(?<![\w-])--?[a-z][a-z-]*", it)} for it in (options, printed(name, "--help")))
+        same((name, sorted(named ^ helped)), (name, []))
 
 
 def try_what_readme_says():
@@ -100,6 +106,33 @@ def try_what_mount_refuses():
     shutil.rmtree(f"{ROOT}/srv/locks")
     until_all_have_ended()
     same(glob.glob(f"{ROOT}/tmp/*"), [])
+
+
+def try_mounts_that_begin_in_one_second():
+    """Two at a time, and twice, by a clock that stands still: each FILE has a name of its own."""
+    os.mkdir(f"{ROOT}/usr/local/bin")
+    put("usr/local/bin/date", "#!/bin/sh\necho 1000\n")
+    os.chmod(f"{ROOT}/usr/local/bin/date", 0o755)
+    os.mkdir(f"{ROOT}/srv/traces")
+    folders = "/srv/one", "/srv/two"
+    for folder in folders:
+        os.mkdir(f"{ROOT}{folder}")
+    for count in 2, 4:
+        with contextlib.ExitStack() as stack:
+            begun = [stack.enter_context(started("mount", "-t", "fuse.lockd", "-o", "resume=/srv/traces/trace,times=/srv/traces/times", "none", it,
+                                                 stderr=subprocess.STDOUT)) for it in folders]
+            same([(it.wait(timeout=60), it.stdout.read()) for it in begun], [(0, b"")] * 2)
+        for folder in folders:
+            printed("flock", f"{folder}/job", "true")
+            printed("umount", folder)
+        until_all_have_ended()
+        for kind in "trace", "times":
+            files = glob.glob(f"{ROOT}/srv/traces/{kind}.1000*")
+            same((len(files), all(map(os.path.getsize, files))), (count, True))
+    for it in "/usr/local/bin/date", *(f"/srv/traces/{it}" for it in os.listdir(f"{ROOT}/srv/traces")):
+        os.remove(f"{ROOT}{it}")
+    for it in "/usr/local/bin", "/srv/traces", *folders:
+        os.rmdir(f"{ROOT}{it}")
 
 
 def try_an_upgrade_while_a_lock_is_held():
@@ -225,18 +258,81 @@ def try_tools_install():
     is_as_before()
 
 
-def try_tools_install_touches_no_file_of_others():
-    """One that is there before, and one that was changed."""
-    page = "/usr/local/share/man/man1/lockd.1"
-    install("/usr/local")
+LIST = "/usr/local/share/lockd/installed"
+PAGE = "/usr/local/share/man/man1/lockd.1"
+
+
+def changes(page):
+    """The user changes an installed file. What it was."""
+    before = text_of(f"{ROOT}{page}")
     put(page, "of another\n")
-    for words, status, said in (("/usr/local",), 2, "is in the way"), (("--uninstall", "/usr/local"), 1, "it stays"), (("/usr/local",), 2, "is in the way"):
-        told = install(*words, status=status)
-        same((f"{ROOT}{page} " in told, said in told, told.count("\n"), text_of(f"{ROOT}{page}")), (True, True, 1, "of another\n"))
-    same([it for it in below(f"{ROOT}/usr/local") if not os.path.isdir(it)], [f"{ROOT}{page}"])
-    os.remove(f"{ROOT}{page}")
-    os.removedirs(os.path.dirname(f"{ROOT}{page}"))
+    return before
+
+
+def names_what_stays(page, *words, status, said):
+    told = install(*words, status=status)
+    same((f"{ROOT}{page} " in told, said in told, told.count("\n"), text_of(f"{ROOT}{page}")), (True, True, 1, "of another\n"))
+
+
+def files_of(prefix):
+    return sorted(it[len(ROOT):] for it in below(f"{ROOT}{prefix}") if not os.path.isdir(it))
+
+
+def try_tools_install_touches_no_file_of_others():
+    """One that is there before, and one that was changed. The list keeps that one, and removes it once it is as it was again."""
+    install("/usr/local")
+    line, before = f"{hashlib.sha256(text_of(f'{ROOT}{PAGE}').encode()).hexdigest()} {PAGE}", changes(PAGE)
+    for words, status, said in [(("/usr/local",), 2, "is in the way"), (("--uninstall", "/usr/local"), 1, "it stays")] * 2:
+        names_what_stays(PAGE, *words, status=status, said=said)
+    same(files_of("/usr/local"), [LIST, PAGE])
+    folders = [f"folder {it[len(ROOT):]}" for it in below(f"{ROOT}/usr/local") if os.path.isdir(it)]
+    same(sorted(text_of(f"{ROOT}{LIST}").splitlines()), sorted([line, *folders]))
+    put(PAGE, before)
+    install("--uninstall", "/usr/local")
     is_as_before()
+
+
+def try_a_changed_file_that_the_user_removes():
+    """After an uninstallation; the list goes with it."""
+    install("/usr/local")
+    changes(PAGE)
+    install("--uninstall", "/usr/local", status=1)
+    os.remove(f"{ROOT}{PAGE}")
+    install("--uninstall", "/usr/local")
+    is_as_before()
+
+
+def try_a_changed_file_that_a_newer_installation_lacks():
+    """It stays, and the list has it, also after the next installation."""
+    older = "/usr/local/share/lockd/of_an_older_one"
+    install("/usr/local")
+    put(older, "as it was\n")
+    with open(f"{ROOT}{LIST}", "a", encoding="utf-8") as file:
+        file.write(f"{hashlib.sha256(text_of(f'{ROOT}{older}').encode()).hexdigest()} {older}\n")
+    before = changes(older)
+    for _ in range(2):
+        ran = subprocess.run([f"{TOP}/tools/install", "/usr/local", ROOT], capture_output=True, text=True, timeout=PATIENCE)
+        same((ran.returncode, ran.stderr), (0, f"install: {ROOT}{older} isn't as this script installed it: it stays\n"))
+    names_what_stays(older, "--uninstall", "/usr/local", status=1, said="it stays")
+    same(files_of("/usr/local"), [LIST, older])
+    put(older, before)
+    install("--uninstall", "/usr/local")
+    is_as_before()
+
+
+def try_a_list_without_checksums():
+    """The line names the command that removes what it has."""
+    os.makedirs(f"{ROOT}/usr/local/share/lockd")
+    put("usr/local/share/lockd/other", "")
+    put(LIST, "".join(f"/usr/local/share/{it}\n" for it in ("", "lockd/", "lockd/other")))
+    for words in ("/usr/local",), ("--uninstall", "/usr/local"):
+        told = install(*words, status=2)
+        same((told.startswith(f"install: {ROOT}{LIST} has no checksums"), told.count("\n"), files_of("/usr/local")), (True, 1, [LIST, "/usr/local/share/lockd/other"]))
+    if subprocess.run(["git", "-C", TOP, "cat-file", "-e", re.search(r" show (\w+):", told)[1]], capture_output=True).returncode:
+        shutil.rmtree(f"{ROOT}/usr/local/share")
+        return "the commit that it names isn't in this clone"
+    subprocess.run(["sh", "-c", told.partition(" by: ")[2]], check=True, timeout=PATIENCE)
+    return is_as_before()
 
 
 def try_tools_install_and_the_package():
