@@ -84,6 +84,15 @@ void server_drop(struct server *server);
 // is at least this one.
 int server_finish(struct server *server, const struct options *options, int status);
 
+// ---- faults.c ----
+
+// Before a server is started, whose trace goes to this file, or "": gives what is to be its standard error, or -1.
+int faults_open(const char *trace);
+// After its end: waits until all that it said has gone on.
+void faults_end(void);
+// Whether it said at its end that its trace failed; if so, what became of the file, to be said behind how it ended.
+bool faults_of_trace(char *said, size_t room);
+
 // ---- place.c ----
 
 struct place {

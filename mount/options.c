@@ -37,8 +37,8 @@ static const char HELP[] =
     "  --help, --version\n"
     "\n"
     "Signals: TERM and INT end the mount, a second one at once; USR1 prints a line of counts; HUP does nothing.\n"
-    "Status: 0 the folder was unmounted, 1 the server ended, 2 nothing was mounted, 3 another fault or a trace that isn't\n"
-    "legal, 4 the mount was ended while files were open, so that locks were lost.\n";
+    "Status: 0 the folder was unmounted, 1 the server ended, 2 nothing was mounted, 3 another fault, or a trace that isn't\n"
+    "legal or lacks lines, 4 the mount was ended while files were open, so that locks were lost.\n";
 
 static void misused(const char *what)
 {

@@ -119,7 +119,7 @@ static void put_options(const char *words[], size_t count, const struct server *
         words[count++] = options->rules[i];
 }
 
-static void run_serve(const struct server *server, const struct options *options)
+static void run_serve(const struct server *server, const struct options *options, int faults)
 {
     const int ignored[] = {SIGHUP, SIGINT, SIGQUIT, SIGXFSZ, SIGTERM};
     const char *words[32] = {server->program, "serve", "socket"};
@@ -133,17 +133,24 @@ static void run_serve(const struct server *server, const struct options *options
     sigemptyset(&none);
     sigprocmask(SIG_SETMASK, &none, NULL);
     int nothing = open("/dev/null", O_RDWR);
-    if (chdir(server->work) || dup2(nothing, STDIN_FILENO) < 0 || dup2(nothing, STDOUT_FILENO) < 0)
+    if (chdir(server->work) || dup2(nothing, STDIN_FILENO) < 0 || dup2(nothing, STDOUT_FILENO) < 0 || dup2(faults, STDERR_FILENO) < 0)
         _exit(127);
     execv(server->program, (char *const *)(uintptr_t)words);
     _exit(127);
+}
+
+// It was waited for.
+static void has_ended(struct server *server)
+{
+    server->pid = 0;
+    faults_end();
 }
 
 // Whether the server has ended.
 static bool is_over(struct server *server)
 {
     if (server->pid && waitpid(server->pid, &server->status, WNOHANG) == server->pid)
-        server->pid = 0;
+        has_ended(server);
     return !server->pid;
 }
 
@@ -174,11 +181,16 @@ enum begun { CONNECTED, NOT_STARTED, NOT_CONNECTED, ENDED, STOPPED, NOT_TRIED };
 static enum begun begin(struct server *server, const struct options *options, bool (*stops)(void), double patience)
 {
     server->socket = socket(AF_UNIX, SOCK_STREAM | SOCK_CLOEXEC, 0);
-    server->pid = server->socket < 0 ? -1 : fork();
+    int faults = server->socket < 0 ? -1 : faults_open(server->trace);
+    server->pid = faults < 0 ? -1 : fork();
     if (!server->pid)
-        run_serve(server, options);
+        run_serve(server, options, faults);
+    if (faults >= 0)
+        close(faults);
     if (server->pid < 0) {
-        server->pid = 0;
+        int error = errno;
+        has_ended(server);
+        errno = error;
         return NOT_STARTED;
     }
     double last = seconds() + patience;
@@ -251,7 +263,7 @@ static void kill_server(struct server *server)
 {
     kill(server->pid, SIGKILL);
     waitpid(server->pid, &server->status, 0);
-    server->pid = 0;
+    has_ended(server);
 }
 
 void server_drop(struct server *server)
@@ -383,9 +395,11 @@ static int judged(const struct server *server, const struct options *options, bo
 int server_finish(struct server *server, const struct options *options, int status)
 {
     wait_for_end(server);
+    char lost[PATH_MAX + 512] = "";
     bool was_killed = WIFSIGNALED(server->status);
+    bool is_cut = faults_of_trace(lost, sizeof lost) || was_killed || server->is_cut;
     if (server->status) {
-        say_end(server, was_killed && !options->resume ? ", and the end of its trace is lost" : "");
+        say_end(server, was_killed && !options->resume ? ", and the end of its trace is lost" : lost);
         if (!was_killed && !status)
             status = STATUS_FAULT;
     }
@@ -394,7 +408,7 @@ int server_finish(struct server *server, const struct options *options, int stat
         return status;
     printf("trace: %s\n", server->trace);
     fflush(stdout);
-    if (!options->no_check && judged(server, options, was_killed || server->is_cut))
+    if (!options->no_check && judged(server, options, is_cut))
         status = STATUS_FAULT;
     return status;
 }

@@ -311,6 +311,7 @@ def as_user(script, *words):
     os.makedirs(f"{top}/mount/out")
     shutil.copy(PROGRAM, f"{top}/mount/out/lockd_mount")
     shutil.copy(os.environ["LOCKD"], f"{top}/lockd")
+    os.chmod(f"{top}/lockd", 0o755)
     for name in "run", "tmp":
         os.mkdir(f"{top}/{name}")
         os.chown(f"{top}/{name}", NOBODY, NOBODY)

@@ -1,5 +1,5 @@
 """Limits of a mount: how many files, open files, locks and waiting requests; where the trace goes."""
-import fcntl, os, subprocess, tempfile, time
+import fcntl, os, resource, subprocess, tempfile, time
 from try_mount_kit import *
 
 
@@ -181,16 +181,43 @@ def lock_for_a_while(mount):
         time.sleep(0.2)
 
 
+def ends_without_lines(mount, said):
+    """The end says why. The lines that are there are judged as those of a server that was killed."""
+    status, verdict = mount.end()
+    same((status, verdict in ("legal", "begins")), (3, True))
+    mount.says(f"trace failed\nlockd_mount: the server ended with status 2: {said}\n")
+
+
 def try_a_full_trace_is_said_while_it_runs():
     disk = tempfile.mkdtemp(dir=WORK)
     subprocess.run(["mount", "-t", "tmpfs", "-o", "size=4k", "none", disk], check=True, timeout=PATIENCE)
     mount = Mount("--trace", f"{disk}/trace")
     lock_for_a_while(mount)
     mount.says("doesn't grow")
-    status, _ = mount.end()
-    assert status == 3
-    mount.says("trace failed", "the server ended with status 2")
+    ends_without_lines(mount, f"{disk}/trace lacks lines, since it couldn't be written: No space left on device (os error 28)")
     unmount(disk)
+
+
+def try_a_trace_that_lacks_whole_lines():
+    """Its file ends with a newline. The list has what it has."""
+    trace = f"{WORK}/lacks.trace"
+    mount = Mount("--trace", trace)
+    shell(mount, "flock job true", "")
+    resource.prlimit(mount.server(), resource.RLIMIT_FSIZE, (os.path.getsize(trace), resource.RLIM_INFINITY))
+    (one,) = children(f"{mount.folder}/held", 1)
+    same((one.ask("flock", "a", ALONE), listed(mount).stdout.count("\n")), ("ok", 1))
+    one.kill()
+    ends_without_lines(mount, f"{trace} lacks lines, since it couldn't be written: File too large (os error 27)")
+    with open(trace, "rb") as it:
+        same(it.read()[-1:], b"\n")
+
+
+def try_a_trace_that_is_removed():
+    trace = f"{WORK}/removed.trace"
+    mount = Mount("--trace", trace)
+    os.remove(trace)
+    same(mount.end()[0], 3)
+    mount.says(f"trace failed\nlockd_mount: the server ended with status 2: {trace} lacks lines, or was removed or replaced\n")
 
 
 def try_a_mount_takes_no_refuse():

@@ -52,10 +52,11 @@ def installs():
 
 
 def try_lintian_finds_no_error():
-    """Its warnings are said, and fail nothing: another version has others."""
+    """Its warnings are said, and fail nothing: another version has others. It leaves files in its TMPDIR."""
     if not shutil.which("lintian"):
         return "not tried, since lintian isn't installed"
-    ran = subprocess.run(["lintian", "--allow-root", "--fail-on", "error", the_package()], capture_output=True, text=True, timeout=PATIENCE)
+    ran = subprocess.run(["lintian", "--allow-root", "--fail-on", "error", the_package()], capture_output=True, text=True, timeout=PATIENCE,
+                         env={**os.environ, "TMPDIR": WORK})
     same((ran.returncode, ran.stdout + ran.stderr if ran.returncode else ""), (0, ""))
     return ran.stdout.strip().replace("\n", "; ")
 

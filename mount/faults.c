@@ -1,0 +1,121 @@
+// What the server says on standard error: it goes on to that of this program. Of the trace's file it is noted why it
+// couldn't be written.
+#include "mount.h"
+
+#include <errno.h>
+#include <fcntl.h>
+#include <poll.h>
+#include <pthread.h>
+#include <stdio.h>
+#include <string.h>
+#include <sys/eventfd.h>
+#include <unistd.h>
+
+enum { LINE = PATH_MAX + 512 };
+
+static struct {
+    pthread_t thread;
+    bool is_heard;
+    int pipe, ended;
+    const char *trace;
+    char why[256]; // the thread's, as the next one, until it has ended
+    bool failed;
+} it;
+
+// What follows this word at the front of a text, or NULL.
+static const char *behind(const char *text, const char *word)
+{
+    size_t size = strlen(word);
+    return text && !strncmp(text, word, size) ? text + size : NULL;
+}
+
+// A line, without its newline.
+static void note(const char *line)
+{
+    const char *why = behind(behind(behind(line, "cannot write "), it.trace), ": ");
+    const char *again = behind(behind(line, it.trace), " is written again");
+    if (why || again)
+        snprintf(it.why, sizeof it.why, "%s", why ? why : "");
+    it.failed |= !strcmp(line, "trace failed");
+}
+
+// One write, as in `say`. Where nobody reads it, it is lost.
+static void pass_on(char *line, size_t size)
+{
+    ssize_t written = write(STDERR_FILENO, line, size);
+    (void)written;
+    line[size - 1] = 0;
+    note(line);
+}
+
+// Waits for what is to be read. False at the end: a process that the server has started may have the pipe for longer.
+static bool waits_for_more(void)
+{
+    struct pollfd events[] = {{.fd = it.pipe, .events = POLLIN}, {.fd = it.ended, .events = POLLIN}};
+    while (poll(events, 2, -1) < 0)
+        ;
+    return events[0].revents;
+}
+
+// A line that has no room, or no newline at the end, goes on in parts.
+static void *hear(void *unused)
+{
+    char line[LINE];
+    size_t held = 0;
+    ssize_t got;
+    (void)unused;
+    while (waits_for_more() && (got = read(it.pipe, line + held, sizeof line - held)) > 0) {
+        held += (size_t)got;
+        for (char *end; (end = memchr(line, '\n', held)) || held == sizeof line;) {
+            size_t size = end ? (size_t)(end - line) + 1 : held;
+            pass_on(line, size);
+            held -= size;
+            memmove(line, line + size, held);
+        }
+    }
+    if (held)
+        pass_on(line, held);
+    return NULL;
+}
+
+int faults_open(const char *trace)
+{
+    int ends[2];
+    if (pipe2(ends, O_CLOEXEC) < 0)
+        return -1;
+    it.pipe = ends[0];
+    it.ended = eventfd(0, EFD_CLOEXEC);
+    it.trace = trace;
+    it.failed = false;
+    it.why[0] = 0;
+    if (it.ended >= 0)
+        errno = pthread_create(&it.thread, NULL, hear, NULL);
+    it.is_heard = it.ended >= 0 && !errno;
+    if (it.is_heard)
+        return ends[1];
+    close(ends[0]);
+    close(ends[1]);
+    if (it.ended >= 0)
+        close(it.ended);
+    return -1;
+}
+
+void faults_end(void)
+{
+    uint64_t one = 1;
+    if (!it.is_heard || write(it.ended, &one, sizeof one) < 0)
+        return;
+    pthread_join(it.thread, NULL);
+    close(it.pipe);
+    close(it.ended);
+    it.is_heard = false;
+}
+
+bool faults_of_trace(char *said, size_t room)
+{
+    if (it.failed && it.why[0])
+        snprintf(said, room, ": %s lacks lines, since it couldn't be written: %s", it.trace, it.why);
+    else if (it.failed)
+        snprintf(said, room, ": %s lacks lines, or was removed or replaced", it.trace);
+    return it.failed;
+}
