@@ -121,12 +121,13 @@ static void put_options(const char *words[], size_t count, const struct server *
 
 static void run_serve(const struct server *server, const struct options *options, int faults)
 {
-    const int ignored[] = {SIGHUP, SIGINT, SIGQUIT, SIGXFSZ, SIGTERM};
+    const int ignored[] = {SIGHUP, SIGINT, SIGQUIT, SIGPIPE, SIGXFSZ, SIGTERM};
     const char *words[32] = {server->program, "serve", "socket"};
     put_options(words, 3, server, options);
     // Signals end the mount alone. The server ends when the mount does, and has to write the rest
     // of its trace. A trace that grows beyond a limit is a write that fails. One that is started
-    // again may be ended by SIGTERM, so that a new program takes its place.
+    // again may be ended by SIGTERM, so that a new program takes its place. What it says to a carrier
+    // that was killed is lost.
     for (size_t i = 0; i < sizeof ignored / sizeof *ignored - (options->resume ? 1 : 0); i++)
         signal(ignored[i], SIG_IGN);
     sigset_t none;
