@@ -3,8 +3,9 @@
 #   lockd   a folder that mount/out/lockd_mount has mounted, with 1 and 4 workers;
 #   null    a FUSE file system in C of one thread that answers 0 to each message: the floor of any FUSE server;
 #   memory  files in /dev/shm, with no server.
-# With --resume it times two mounts with 1 worker alone, one with a trace and one with --resume.
-# Each process makes as many calls as the argument says (20,000 without one), four times as many in memory, and a tenth
+# With --resume it times two mounts with 1 worker alone, one with a trace and one with --resume, in twelve short runs of 3,000 calls:
+# they are nearly as fast, so a disturbance of one long run would be all that is seen.
+# Each process makes as many calls as the argument says (else 20,000), four times as many in memory, and a tenth
 # goes before them that doesn't count. Each run has a mount of its own. The runs take turns, three times, and the best of
 # each figure counts. Prints pairs a second and p50 of a call, then the ratios, and what is aimed at. Wants root,
 # /dev/fuse, a C compiler and Python 3.
@@ -19,11 +20,12 @@ mount/build
 resumes=
 [ "${1:-}" != --resume ] || { resumes=1 && shift; }
 unshare --mount --propagation private --pid --fork --kill-child --mount-proc \
-    python3 - "$(realpath "$program")" "$work" "${1:-20000}" "$resumes" <<'END'
+    python3 - "$(realpath "$program")" "$work" "${1:-0}" "$resumes" <<'END'
 import itertools, os, shutil, subprocess, sys, tempfile, time
 
 PROGRAM, WORK, CALLS, RESUMES = *sys.argv[1:3], int(sys.argv[3]), sys.argv[4]
-ROUNDS, LONGEST = 3, 120
+CALLS = CALLS or (3_000 if RESUMES else 20_000)
+ROUNDS, LONGEST = 12 if RESUMES else 3, 120
 NUMBER = itertools.count()
 PROCESSES = 1, 8
 LOCKD = ["lockd, 1 worker", "lockd, 4 workers"]
