@@ -8,7 +8,7 @@ use lockd_commands::{
     bytes_on, check_on, drive_on, locks_on, script_on,
 };
 use std::io;
-use std::io::{Printer, Read, Stderr};
+use std::io::{ErrorKind, Read, Write};
 use std::path::Path;
 
 // What is read, in words.
@@ -16,27 +16,25 @@ const INPUT: &str = "standard input";
 
 /// `lockd script`.
 pub(crate) fn script(host: Host<'_>, rules: Rules) -> Status {
-    let alloc = host.rt.alloc();
-    let mut io = Streams::new(host, Watched::new(host.rt.reader(), orders_watched(host)));
-    let status = script_on(alloc, rules, &mut io.input, &mut io.output, &mut io.faults);
-    io.end_watched(host, status)
+    let rt = host.rt;
+    let mut input = Watched::new(rt.reader(), orders_watched(host));
+    let mut output = Noting::new(io::writer(rt));
+    let mut faults = rt.stderr();
+    let status = script_on(rt.alloc(), rules, &mut input, &mut output, &mut faults);
+    tell_watched(host, &mut faults, status, &mut input, output.failed());
+    status
 }
 
 /// `lockd check`.
 pub(crate) fn check(host: Host<'_>, rules: Rules, tells_quiet: bool, cut: bool) -> Status {
-    let alloc = host.rt.alloc();
+    let (rt, alloc) = (host.rt, host.rt.alloc());
     let options = CheckOptions { tells_quiet, cut };
-    let watch = trace_watched(host, rules, usize::MAX);
-    let mut io = Streams::new(host, Watched::new(host.rt.reader(), watch));
-    let status = check_on(
-        alloc,
-        rules,
-        options,
-        &mut io.input,
-        &mut io.output,
-        &mut io.faults,
-    );
-    io.end_watched(host, status)
+    let mut input = Watched::new(rt.reader(), trace_watched(host, rules, usize::MAX));
+    let mut output = Noting::new(io::writer(rt));
+    let mut faults = rt.stderr();
+    let status = check_on(alloc, rules, options, &mut input, &mut output, &mut faults);
+    tell_watched(host, &mut faults, status, &mut input, output.failed());
+    status
 }
 
 /// `lockd locks`.
@@ -47,50 +45,52 @@ pub(crate) fn locks(
     file: &Option<String>,
     json: bool,
 ) -> Status {
-    let alloc = host.rt.alloc();
+    let (rt, alloc) = (host.rt, host.rt.alloc());
     let options = LocksOptions {
         at: at.map(|lines| lines as usize),
         file: file.as_ref().map(|name| name.as_bytes()),
         json,
     };
-    let watch = trace_watched(host, rules, options.at.unwrap_or(usize::MAX));
-    let mut io = Streams::new(host, Watched::new(host.rt.reader(), watch));
-    let status = locks_on(
-        alloc,
-        rules,
-        options,
-        &mut io.input,
-        &mut io.output,
-        &mut io.faults,
-    );
-    io.end_watched(host, status)
+    let lines = options.at.unwrap_or(usize::MAX);
+    let mut input = Watched::new(rt.reader(), trace_watched(host, rules, lines));
+    let mut output = Noting::new(io::writer(rt));
+    let mut faults = rt.stderr();
+    let status = locks_on(alloc, rules, options, &mut input, &mut output, &mut faults);
+    tell_watched(host, &mut faults, status, &mut input, output.failed());
+    status
 }
 
 /// `lockd bytes`.
 pub(crate) fn bytes(host: Host<'_>, rules: Rules) -> Status {
-    let alloc = host.rt.alloc();
-    let mut io = Streams::new(host, Kept::new(host.rt.reader(), room(host)));
-    let status = bytes_on(alloc, rules, &mut io.input, &mut io.output, &mut io.faults);
-    io.end_kept(host, status)
+    let rt = host.rt;
+    let mut input = Kept::new(rt.reader(), room(host));
+    let mut output = Noting::new(io::writer(rt));
+    let mut faults = rt.stderr();
+    let status = bytes_on(rt.alloc(), rules, &mut input, &mut output, &mut faults);
+    tell_kept(host, &mut faults, status, &input, output.failed());
+    status
 }
 
 /// `lockd drive`.
 pub(crate) fn drive(host: Host<'_>, socket: &str) -> Status {
-    hold_closed_streams(host.rt);
-    let mut io = Streams::new(host, Kept::new(host.rt.reader(), room(host)));
+    let rt = host.rt;
+    hold_closed_streams(rt);
+    let mut input = Kept::new(rt.reader(), room(host));
+    let mut output = Noting::new(io::writer(rt));
+    let mut faults = rt.stderr();
     let mut why = None;
     let status = drive_on(
-        host.rt,
-        host.rt.alloc(),
+        rt,
+        rt.alloc(),
         Path::new(socket),
-        &mut io.input,
-        &mut io.output,
-        &mut io.faults,
+        &mut input,
+        &mut output,
+        &mut faults,
         &mut why,
     );
-    let status = io.end_kept(host, status);
+    tell_kept(host, &mut faults, status, &input, output.failed());
     if host.verbose && status == Status::Faulted(CommandFault::Connect) {
-        tell_unconnected(&mut io.faults, host.rt, socket, &why);
+        tell_unconnected(&mut faults, rt, socket, &why);
     }
     status
 }
@@ -122,50 +122,38 @@ fn room(host: Host<'_>) -> Option<Vec<u8>> {
     }
 }
 
-// What a command reads and writes.
-#[derive(Drop)]
-struct Streams<'a, I> {
-    input: I,
-    output: Noting<Printer<'a, HostRuntime>>,
-    faults: Stderr,
-}
-
-impl<'a, I> Streams<'a, I> {
-    fn new(host: Host<'a>, input: I) -> Streams<'a, I> {
-        Streams {
-            input,
-            output: Noting::new(io::writer(host.rt)),
-            faults: host.rt.stderr(),
-        }
+// Says more, if that is asked for, of a command that read a script or a trace, and ended so.
+fn tell_watched<F: Write, R: Read>(
+    host: Host<'_>,
+    faults: &mut F,
+    status: Status,
+    input: &mut Watched<R>,
+    unwritten: Option<ErrorKind>,
+) {
+    if !host.verbose {
+        return;
+    }
+    tell_streams(faults, status, input.failed(), unwritten);
+    if let Some(watch) = input.seen() {
+        tell_lines(faults, status, INPUT, watch);
     }
 }
 
-impl<R: Read> Streams<'_, Watched<R>> {
-    // Says more, if that is asked for, of a command that read a script or a trace, and ended so.
-    fn end_watched(&mut self, host: Host<'_>, status: Status) -> Status {
-        if host.verbose {
-            let faults = &mut self.faults;
-            tell_streams(faults, status, self.input.failed(), self.output.failed());
-            if let Some(watch) = self.input.seen() {
-                tell_lines(faults, status, INPUT, watch);
-            }
-        }
-        status
+// Says more, if that is asked for, of a command that read lines of hex, and ended so.
+fn tell_kept<F: Write, R: Read>(
+    host: Host<'_>,
+    faults: &mut F,
+    status: Status,
+    input: &Kept<R>,
+    unwritten: Option<ErrorKind>,
+) {
+    if !host.verbose {
+        return;
     }
-}
-
-impl<R: Read> Streams<'_, Kept<R>> {
-    // Says more, if that is asked for, of a command that read lines of hex, and ended so.
-    fn end_kept(&mut self, host: Host<'_>, status: Status) -> Status {
-        if host.verbose {
-            let faults = &mut self.faults;
-            tell_streams(faults, status, self.input.failed(), self.output.failed());
-            if let Status::Faulted(CommandFault::BadLine(n)) = status {
-                if let Some(line) = self.input.line(n) {
-                    tell_hex(faults, INPUT, n, line);
-                }
-            }
+    tell_streams(faults, status, input.failed(), unwritten);
+    if let Status::Faulted(CommandFault::BadLine(n)) = status {
+        if let Some(line) = input.line(n) {
+            tell_hex(faults, INPUT, n, line);
         }
-        status
     }
 }
