@@ -75,6 +75,8 @@ static void *hear(void *unused)
     }
     if (held)
         pass_on(line, held);
+    // Nobody hears the server any more: its writes fail, and don't wait.
+    close(it.pipe);
     return NULL;
 }
 
@@ -106,7 +108,6 @@ void faults_end(void)
     if (!it.is_heard || write(it.ended, &one, sizeof one) < 0)
         return;
     pthread_join(it.thread, NULL);
-    close(it.pipe);
     close(it.ended);
     it.is_heard = false;
 }

@@ -15,7 +15,7 @@ use lockd_serve::{
     end_unopened, end_without_file, is_at, is_unused, resume_on, serve_on,
 };
 use std::fs::{File, Files, OpenOptions};
-use std::io::{ErrorKind, Read, Stderr, Write};
+use std::io::{Read, Stderr, Write};
 use std::net::Net;
 use std::path::Path;
 use std::sync::Wait;
@@ -79,9 +79,7 @@ fn serve_opened<T: Threads + Wait + Net + Files + Sync>(
         words,
     );
     words.printed(status, output.failed());
-    if let Trace::File(file, _) = trace {
-        remove_unused(rt, file.as_str(), status);
-    }
+    remove_unused(rt, trace, status);
     end_traced(rt, trace, written, status, &mut faults, words)
 }
 
@@ -96,16 +94,13 @@ pub(crate) fn resume(
     let rt = host.rt;
     hold_closed_streams(rt);
     let mut words = server_words(host, socket, file);
-    let (trace, is_new) = match opened_behind(rt, file) {
-        Ok(opened) => opened,
+    let trace = match opened_behind(rt, file) {
+        Ok(trace) => trace,
         Err(why) => {
             return end_unopened(&mut rt.stderr(), &mut words, Untraced::Unopened(why));
         }
     };
     let status = resume_opened(rt, socket, rules, trace, file, when, &mut words);
-    if is_new && is_empty(rt, file) {
-        remove_unused(rt, file, status);
-    }
     if host.verbose {
         tell_file(rt, file, rules, status, &mut rt.stderr());
     }
@@ -230,18 +225,14 @@ fn made(rt: &HostRuntime, path: &str) -> io::Result<File> {
         .open(rt, Path::new(path))
 }
 
-// The file at a path, which is made if there is none, and whether it was. What is written goes behind what it has.
-fn opened_behind(rt: &HostRuntime, path: &str) -> io::Result<(File, bool)> {
-    let path = Path::new(path);
+// The file at a path, which is made if there is none. What is written goes behind what it has.
+fn opened_behind(rt: &HostRuntime, path: &str) -> io::Result<File> {
     let mut options = OpenOptions::new();
-    options.read(true).append(true);
-    match options.create_new(true).open(rt, path) {
-        Err(error) if error.kind() == ErrorKind::AlreadyExists => {
-            let file = options.create_new(false).create(true).open(rt, path)?;
-            Ok((file, false))
-        }
-        made => Ok((made?, true)),
-    }
+    options
+        .read(true)
+        .append(true)
+        .create(true)
+        .open(rt, Path::new(path))
 }
 
 // Ends a server with this status. If its trace's file was removed or replaced, that is told.
@@ -264,18 +255,13 @@ fn end_traced<F: Write>(
     }
 }
 
-// Whether the file at a path has nothing.
-fn is_empty(rt: &HostRuntime, path: &str) -> bool {
-    match fs::metadata(rt, Path::new(path)) {
-        Ok(found) => found.len() == 0,
-        Err(_) => false,
-    }
-}
-
-// Takes away the file that was made for a trace, if no session was served.
-fn remove_unused(rt: &HostRuntime, file: &str, status: Status) {
-    if is_unused(status) {
-        let _ = fs::remove_file(rt, Path::new(file));
+// Takes the trace's file away if no session was served.
+fn remove_unused(rt: &HostRuntime, trace: &Trace, status: Status) {
+    match trace {
+        Trace::File(file, _) if is_unused(status) => {
+            let _ = fs::remove_file(rt, Path::new(file.as_str()));
+        }
+        _ => {}
     }
 }
 
