@@ -2,10 +2,10 @@
 
 use crate::descriptors::hold_closed_streams;
 use crate::host::Host;
-use crate::words::{tell_hex, tell_lines, tell_streams, tell_unconnected};
+use crate::words::tell_unconnected;
 use lockd_commands::{
     CheckOptions, CommandFault, Kept, LocksOptions, Noting, Rules, Status, Watch, Watched,
-    bytes_on, check_on, drive_on, locks_on, script_on,
+    bytes_on, check_on, drive_on, locks_on, script_on, tell_hex, tell_lines, tell_streams,
 };
 use std::io;
 use std::io::{ErrorKind, Read, Write};

@@ -7,9 +7,9 @@ ghost use Rattle.lockd_serve.specs.Ending.{Ends};
 
 use crate::descriptors::hold_closed_streams;
 use crate::host::Host;
-use crate::words::{ServerWords, tell_lines};
+use crate::words::ServerWords;
 use lockd_cli::{Trace, WhenFull, WhenStuck};
-use lockd_commands::{CommandFault, Noting, Rules, Status, Watch, Watched};
+use lockd_commands::{CommandFault, Noting, Rules, Status, Watch, Watched, tell_lines};
 use lockd_serve::{
     Observer, ServeOptions, Telling, TraceTo, Untraced, WhenUnwritten, WhenWriterFails,
     end_unopened, end_without_file, is_at, is_unused, resume_on, serve_on,

@@ -21,6 +21,7 @@ mod noting;
 mod printing;
 mod status;
 mod streams;
+mod verbose;
 mod watched;
 mod witness;
 
@@ -32,4 +33,5 @@ pub use noting::Noting;
 pub use printing::print;
 pub use status::{Status, end};
 pub use streams::{read_all, write_all};
+pub use verbose::{tell_hex, tell_lines, tell_streams};
 pub use watched::{Watch, Watched};
