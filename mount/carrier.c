@@ -529,9 +529,13 @@ void carrier_counts(struct counts *counts)
 
 void carrier_print_opcodes(void)
 {
-    fputs("messages of the kernel, opcode and how many:", stderr);
-    for (size_t opcode = 0; opcode < OPCODES; opcode++)
-        if (atomic_load(&it.seen[opcode]))
-            fprintf(stderr, " %zu:%llu", opcode, (unsigned long long)atomic_load(&it.seen[opcode]));
-    fputs("\n", stderr);
+    char line[32 * OPCODES] = "messages of the kernel, opcode and how many:";
+    size_t size = strlen(line);
+    for (size_t opcode = 0; opcode < OPCODES; opcode++) {
+        unsigned long long seen = atomic_load(&it.seen[opcode]);
+        if (seen)
+            size += (size_t)snprintf(line + size, sizeof line - size, " %zu:%llu", opcode, seen);
+    }
+    line[size++] = '\n';
+    say_line(line, size);
 }

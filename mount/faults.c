@@ -39,11 +39,9 @@ static void note(const char *line)
     it.failed |= !strcmp(line, "trace failed");
 }
 
-// One write, as in `say`. Where nobody reads it, it is lost.
 static void pass_on(char *line, size_t size)
 {
-    ssize_t written = write(STDERR_FILENO, line, size);
-    (void)written;
+    say_line(line, size);
     line[size - 1] = 0;
     note(line);
 }

@@ -2,6 +2,7 @@
 #include "mount.h"
 
 #include <errno.h>
+#include <poll.h>
 #include <stdarg.h>
 #include <stdio.h>
 #include <stdlib.h>
@@ -11,8 +12,19 @@
 #include <unistd.h>
 
 enum { LINE = 4096 + 512 };
+enum { PATIENCE = 1000 }; // milliseconds
 
 // One write, so that lines of two threads don't mix.
+void say_line(const char *line, size_t size)
+{
+    static atomic_int patience = PATIENCE;
+    struct pollfd to = {.fd = STDERR_FILENO, .events = POLLOUT};
+    bool is_read = poll(&to, 1, patience) > 0;
+    patience = is_read ? PATIENCE : 0;
+    if (is_read && write(STDERR_FILENO, line, size) < 0)
+        return;
+}
+
 static void say_with(int error, const char *what, va_list words)
 {
     char line[LINE];
@@ -23,8 +35,7 @@ static void say_with(int error, const char *what, va_list words)
     if (size > LINE - 2)
         size = LINE - 2;
     line[size++] = '\n';
-    if (write(STDERR_FILENO, line, (size_t)size) < 0)
-        return;
+    say_line(line, (size_t)size);
 }
 
 void say(const char *what, ...)

@@ -1,5 +1,5 @@
 """How a mount ends: by umount, signals, a server or a carrier that is killed, an abort."""
-import fcntl, os, signal, subprocess, tempfile, threading, time
+import fcntl, os, resource, select, signal, subprocess, tempfile, threading, time
 from try_mount_kit import *
 
 
@@ -110,6 +110,40 @@ def try_term_with_a_process_that_stands_in_the_folder():
     finally:
         inside.kill()
         inside.wait()
+
+
+def unread_errors():
+    """Standard errors that take no line: that of a full pipe, and that of a stopped terminal."""
+    reading, pipe = os.pipe()
+    os.set_blocking(pipe, False)
+    while outcome(os.write, pipe, bytes(4096)) == 4096:
+        pass
+    os.set_blocking(pipe, True)
+    keys, terminal = os.openpty()
+    os.write(keys, b"\x13")
+    until(lambda: not select.select([], [terminal], [], 0)[1])
+    yield from (pipe, terminal)
+    for it in reading, pipe, keys, terminal:
+        os.close(it)
+
+
+def try_nobody_reads_what_it_says():
+    """Nor what its server says, whose trace can't be written. It ends all the same, and goes on with another server."""
+    for errors in unread_errors():
+        trace = tempfile.mkdtemp(dir=WORK) + "/trace"
+        mount = Mount("--trace", trace, "--count", errors=errors)
+        resource.prlimit(mount.server(), resource.RLIMIT_FSIZE, (os.path.getsize(trace), resource.RLIM_INFINITY))
+        for it in held_and_waited_for(mount):
+            it.kill()
+        status, verdict = mount.end(mount.term)
+        same((status, verdict in ("legal", "begins")), (3, True))
+        mount = Mount("--resume", f"{trace}.resumed", errors=errors)
+        one, two = held_and_waited_for(mount)
+        os.kill(mount.server(), signal.SIGKILL)
+        same([one.ask("flock", "a", NOT_HELD), two.answer()], ["ok", "ok"])
+        one.kill()
+        two.kill()
+        same(mount.end(), (0, "legal"))
 
 
 def try_hup_does_nothing_and_usr1_prints_counts():

@@ -20,12 +20,12 @@ UMOUNT = ["fusermount3", "-u"] if AS_USER else ["umount"]
 class Mount:
     """A lock directory, mounted by lockd_mount, at `folder`."""
 
-    def __init__(self, *words, folder=None, program=PROGRAM, refused=False, mode=0o755, **env):
+    def __init__(self, *words, folder=None, program=PROGRAM, refused=False, mode=0o755, errors=subprocess.STDOUT, **env):
         self.folder = folder or tempfile.mkdtemp(dir=WORK)
         if not folder:
             os.chmod(self.folder, mode)
         self.words, self.said = words, tempfile.TemporaryFile("w+", dir=WORK)
-        self.running = subprocess.Popen([program, *words, "--", self.folder], stdout=self.said, stderr=subprocess.STDOUT,
+        self.running = subprocess.Popen([program, *words, "--", self.folder], stdout=self.said, stderr=errors,
                                         env={**os.environ, "TMPDIR": WORK, **env})
         until(lambda: "mounted at" in self.output() or self.running.poll() is not None)
         if self.running.poll() is not None and "Operation not permitted" in self.output() and not refused:
