@@ -3,6 +3,7 @@
 #include "mount.h"
 
 #include <errno.h>
+#include <fcntl.h>
 #include <poll.h>
 #include <signal.h>
 #include <stdio.h>
@@ -94,6 +95,17 @@ static void sleep_for(int milliseconds)
 }
 
 // ---- Beginning ----
+
+// A file that is opened must not get the number of a standard one that is closed.
+static void open_standard_files(void)
+{
+    int file;
+    while ((file = open("/dev/null", O_RDWR)) >= 0 && file <= STDERR_FILENO)
+        ;
+    if (file < 0)
+        fail("cannot open /dev/null");
+    close(file);
+}
 
 static void take_away(void)
 {
@@ -398,6 +410,7 @@ static int end_unexpected(enum end end, int fault)
 
 int main(int argc, char **argv)
 {
+    open_standard_files();
     read_options(argc, argv, &it.options);
     take_signals();
     begin();

@@ -229,6 +229,23 @@ def try_the_unit():
     same((ran.returncode, [it for it in ran.stderr.splitlines() if "lockd" in it]), (0, []))
 
 
+def try_standard_files_that_are_closed():
+    """The mount has /dev/null for each, and its server has what it has else."""
+    for closed in (0,), (1,), (2,), (0, 1, 2):
+        folder, closes = tempfile.mkdtemp(dir=WORK), " ".join(f"{it}>&-" for it in closed)
+        listening = socket.socket(socket.AF_UNIX, socket.SOCK_DGRAM)
+        listening.bind(f"{folder}.notify")
+        listening.settimeout(PATIENCE)
+        begun = subprocess.Popen(["sh", "-c", f'exec "$@" {closes}', "sh", PROGRAM, "--trace", "none", folder], stdout=subprocess.DEVNULL,
+                                 stderr=subprocess.DEVNULL, env={**os.environ, "TMPDIR": WORK, "NOTIFY_SOCKET": f"{folder}.notify"})
+        contains(listening.recv(4096).decode(), "READY=1\n")
+        (server,) = [pid for pid, words in children_of(begun.pid) if b"serve" in words]
+        same([os.readlink(f"/proc/{begun.pid}/fd/{it}") for it in closed], ["/dev/null"] * len(closed))
+        same([os.readlink(f"/proc/{server}/fd/{it}").partition(":")[0] for it in range(3)], ["/dev/null", "/dev/null", "pipe"])
+        begun.terminate()
+        same(begun.wait(PATIENCE), 0)
+
+
 # ---- Servers that fail ----
 
 def refused_by(how, *said, **env):
