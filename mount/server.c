@@ -235,6 +235,10 @@ void server_start(struct server *server, const struct options *options, bool (*s
     find_program(server);
     make_folder(server);
     place_trace(server, options);
+    // The lines of the server, and those of the mount, name it.
+    errno = 0;
+    if (strchr(server->trace, '\n'))
+        fail("the path of the trace has a newline: name another FILE");
     enum begun begun = begin(server, options, stops, PATIENCE);
     if (begun == NOT_STARTED)
         fail("cannot start %s", server->program);

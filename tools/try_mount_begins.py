@@ -104,6 +104,7 @@ def try_what_cannot_be_mounted():
         ("unrecognized option", folder, "--nothing"), ("mode (octal)", folder, "--mode", "9"), ("grace", folder, "--grace", "-1"),
         ("files: a number from 1 to 65536", folder, "--files", "65537"), ("open: a number from 1 to 65536", folder, "--open", "0"),
         ("no folder at --help", "--", "--help"), ("--trace-full", folder, "--trace-full", "never"), ("no folder", ""),
+        ("has a newline", folder, "--trace", f"{folder}/a\nb"), ("has a newline", folder, "--resume", f"{folder}/a\nb"),
     ]
     for said, *words in wanted:
         contains(refusal(*words), said)
