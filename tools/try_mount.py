@@ -1,7 +1,7 @@
 """What tools/try_mount.sh runs in its namespace: each function of try_mount_*.py whose name begins with `try_` is one thing
 that is tried. Those that take a mount share one, with 1 worker and with 4; the others, some at a time, have their own.
 """
-import os, resource, shutil, signal, subprocess, sys, time, traceback
+import os, resource, signal, subprocess, sys, time, traceback
 import try_mount_begins, try_mount_ends, try_mount_files, try_mount_leaks, try_mount_limits, try_mount_locks, try_mount_resumed, try_mount_times
 from try_mount_kit import *
 
@@ -78,7 +78,6 @@ def verdict(mount, wanted=(0, "legal")):
 def prepare():
     signal.signal(signal.SIGALRM, out_of_time)
     resource.setrlimit(resource.RLIMIT_NOFILE, (4096, 4096))
-    os.environ["TRY_MOUNT_WORK"] = WORK
     if AS_USER:
         return
     # Records of mounts stay in this namespace, and connections can be aborted.
@@ -119,8 +118,6 @@ def main():
         if chosen(together):
             outcomes += [it == 0 for it in [as_user("try_mount.py", *sys.argv[1:])] if it is not None]
     print(f"{sum(outcomes)} passed, {len(outcomes) - sum(outcomes)} failed", flush=True)
-    # It goes into what a try that failed has left mounted.
-    shutil.rmtree(WORK, ignore_errors=True)
     return 0 if outcomes and all(outcomes) else 1
 
 

@@ -36,8 +36,12 @@ if [ -z "${LOCKD_MOUNT:-}" ]; then
     [ -z "$checked" ] || LOCKD_MOUNT_CHECKED=$PWD/$checked
     export LOCKD_MOUNT_CHECKED="${LOCKD_MOUNT_CHECKED:-}"
 fi
+# What a try has left mounted is there as long as the namespace is.
+work=$(mktemp -d "${TMPDIR:-/tmp}/try_mount.XXXXXX")
+trap 'rm -rf "$work"' EXIT
+trap 'exit 1' HUP INT TERM
 # All processes are in a namespace of their own, so that none is left. The one that runs out of time is killed.
 status=0
-timeout -s KILL 7200 $apart python3 tools/try_mount.py "$@" || status=$?
+TRY_MOUNT_WORK=$work timeout -s KILL 7200 $apart python3 tools/try_mount.py "$@" || status=$?
 [ "$status" -ne 137 ] || echo 'try_mount: killed after 7200 seconds'
 exit "$status"

@@ -306,7 +306,7 @@ def as_user(script, *words):
         print(f"not tried as a user: there is no {missing[0]}", flush=True)
         return None
     # What nobody may read, run and write to.
-    top, device = tempfile.mkdtemp(prefix="try_user."), tempfile.mkdtemp(dir=WORK) + "/fuse"
+    top, device = tempfile.mkdtemp(dir=WORK), tempfile.mkdtemp(dir=WORK) + "/fuse"
     shutil.copytree(f"{TOP}/tools", f"{top}/tools", ignore=shutil.ignore_patterns("out", "cases", "__pycache__"))
     os.makedirs(f"{top}/mount/out")
     shutil.copy(PROGRAM, f"{top}/mount/out/lockd_mount")
@@ -315,6 +315,7 @@ def as_user(script, *words):
     for name in "run", "tmp":
         os.mkdir(f"{top}/{name}")
         os.chown(f"{top}/{name}", NOBODY, NOBODY)
+    os.chmod(WORK, 0o711)
     os.chmod(top, 0o755)
     os.mknod(device, 0o20666, os.makedev(10, 229))
     os.chmod(device, 0o666)
@@ -327,4 +328,3 @@ def as_user(script, *words):
     finally:
         # A mount that a try has left may have it open.
         subprocess.run(["umount", "-l", "/dev/fuse"], check=True, timeout=PATIENCE)
-        shutil.rmtree(top, ignore_errors=True)
