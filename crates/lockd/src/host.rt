@@ -1,8 +1,21 @@
 //! What a command runs on.
 
+use std::alloc::Global;
+
 /// The runtime, and whether more is said than the papers fix (`--verbose`).
 #[derive(Clone, Copy)]
 pub(crate) struct Host<'a> {
     pub rt: &'a HostRuntime,
     pub verbose: bool,
+}
+
+impl Host<'_> {
+    /// Memory for what is to be kept of an input, if more is to be said of it.
+    pub(crate) fn memory(self) -> Option<Global> {
+        if self.verbose {
+            Some(self.rt.alloc())
+        } else {
+            None
+        }
+    }
 }

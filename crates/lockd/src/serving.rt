@@ -9,13 +9,13 @@ use crate::descriptors::hold_closed_streams;
 use crate::host::Host;
 use crate::words::ServerWords;
 use lockd_cli::{Trace, WhenFull, WhenStuck};
-use lockd_commands::{CommandFault, Noting, Rules, Status, Watch, Watched, tell_lines};
+use lockd_commands::{CommandFault, Noting, Rules, Status, Watched};
 use lockd_serve::{
     Observer, ServeOptions, Telling, TraceTo, Untraced, WhenUnwritten, WhenWriterFails,
     end_unopened, end_without_file, is_at, is_unused, resume_on, serve_on,
 };
 use std::fs::{File, Files, OpenOptions};
-use std::io::{Read, Stderr, Write};
+use std::io::{Stderr, Write};
 use std::net::Net;
 use std::path::Path;
 use std::sync::Wait;
@@ -162,22 +162,9 @@ fn tell_file<F: Write>(rt: &HostRuntime, file: &str, rules: Rules, status: Statu
     let Ok(trace) = File::open(rt, Path::new(file)) else {
         return;
     };
-    let mut input = Watched::new(trace, Watch::of_trace(rt.alloc(), rules, usize::MAX).ok());
-    read_through(&mut input);
-    if let Some(watch) = input.seen() {
-        tell_lines(faults, status, file, watch);
-    }
-}
-
-// Reads all that there is, or up to a read that fails.
-fn read_through<R: Read>(input: &mut R) {
-    let mut room = [0; 4096];
-    for _ in 0..u64::MAX {
-        match input.read(&mut room) {
-            Ok(0) | Err(_) => return,
-            Ok(_) => {}
-        }
-    }
+    let mut input = Watched::of_trace(trace, Some(rt.alloc()), rules, usize::MAX);
+    let _ = io::copy(&mut input, &mut io::sink());
+    input.tell(faults, status, file, None);
 }
 
 // Where the trace of `lockd serve` goes. Its file is made before the server listens.

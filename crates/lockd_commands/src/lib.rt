@@ -31,8 +31,6 @@ pub use bytes::bytes_on;
 pub use check::{CheckOptions, check_on};
 pub use drive::drive_on;
 pub use fl_core::Rules;
-pub use lockd_faults::{
-    CommandFault, Kept, Noting, Status, Watch, Watched, tell_hex, tell_lines, tell_streams,
-};
+pub use lockd_faults::{CommandFault, Kept, Noting, Status, Watched, tell_streams};
 pub use locks::{LocksOptions, locks_on};
 pub use script::script_on;

@@ -25,25 +25,15 @@ const REPLIES: [&str; 7] = ["ok", "entry", "attr", "open", "made", "lock", "err"
 
 /// Why a line is bad.
 #[derive(Clone, Copy)]
-pub enum Why<'a> {
+pub(crate) enum Why<'a> {
     /// For this reason.
     Said(&'static str),
+    /// For what stands around one of its words.
+    Word(&'static str, &'a str, &'static str),
     /// It has this byte, which stands in none.
     Byte(u8),
-    /// It begins with this word.
-    Begins(&'a str),
-    /// This word is no number.
-    NoNumber(&'a str),
-    /// This number has a zero in front.
-    Zero(&'a str),
     /// This number is greater than the greatest.
     Great(&'a str, u64),
-    /// No order has this name.
-    Order(&'a str),
-    /// No reply has this name.
-    Reply(&'a str),
-    /// What stands behind this name doesn't fit.
-    Fields(&'a str),
     /// It has this byte, which is no hex digit.
     NoDigit(u8),
 }
@@ -52,17 +42,9 @@ impl Display for Why<'_> {
     fn fmt<W: fmt::Write>(&self, f: &mut Formatter<W>) -> fmt::Result {
         match self {
             Why::Said(reason) => f.write_str(reason),
+            Why::Word(before, word, behind) => write!(f, "{before}{word}{behind}"),
             Why::Byte(byte) => write!(f, "it has the byte {byte}, which stands in no line"),
-            Why::Begins(word) => write!(f, "it begins with {word}, and with neither ask nor tell"),
-            Why::NoNumber(word) => write!(f, "{word} is no number"),
-            Why::Zero(word) => write!(f, "{word} has a zero in front"),
             Why::Great(word, most) => write!(f, "{word} is too great: the most is {most}"),
-            Why::Order(word) => write!(f, "no order is named {word}"),
-            Why::Reply(word) => write!(f, "no reply is named {word}"),
-            Why::Fields(word) => write!(
-                f,
-                "what stands behind {word} doesn't fit: see docs/TRACE.md"
-            ),
             Why::NoDigit(byte) => {
                 let byte = char::from(*byte);
                 write!(f, "{byte} is no hex digit")
@@ -96,7 +78,7 @@ const ODD: Why<'_> = Why::Said("it has an odd number of hex digits");
 const NO_REPLIES: Why<'_> = Why::Said("recv waits for 1 to 1000 replies");
 
 /// Why a line is none of a trace, or of a script, if it takes no replies. It has its newline, if one ends it.
-pub fn why_bad(line: &[u8], takes_replies: bool) -> Why<'_> {
+pub(crate) fn why_bad(line: &[u8], takes_replies: bool) -> Why<'_> {
     let Some(text) = line.strip_suffix(b"\n") else {
         return if takes_replies { CUT_OFF } else { UNENDED };
     };
@@ -116,7 +98,7 @@ pub fn why_bad(line: &[u8], takes_replies: bool) -> Why<'_> {
 }
 
 /// Why a line is none of hex, and none that waits for replies. It has its newline, if one ends it.
-pub fn why_bad_hex(line: &[u8]) -> Why<'_> {
+pub(crate) fn why_bad_hex(line: &[u8]) -> Why<'_> {
     let Some(text) = line.strip_suffix(b"\n") else {
         return UNENDED;
     };
@@ -149,7 +131,7 @@ fn why_words(text: &str) -> Why<'_> {
     match word {
         "ask" => why_asked(rest),
         "tell" => why_told(rest),
-        _ => Why::Begins(word),
+        _ => Why::Word("it begins with ", word, ", and with neither ask nor tell"),
     }
 }
 
@@ -184,7 +166,7 @@ fn why_asked(text: &str) -> Why<'_> {
         Some(OpKind::Create) => why_named(word, &CREATED, fields),
         Some(OpKind::Lookup | OpKind::Unlink) => why_named(word, &[], fields),
         Some(kind) if kind.shape().is_ok() => why_fields(word, fields),
-        _ => Why::Order(word),
+        _ => Why::Word("no order is named ", word, ""),
     }
 }
 
@@ -192,9 +174,15 @@ fn why_asked(text: &str) -> Why<'_> {
 fn why_named<'a>(order: &'a str, greatest: &[u64], fields: &'a str) -> Why<'a> {
     match behind_numbers(fields, greatest) {
         Err(why) => why,
-        Ok(name) if name.bytes().any(|byte| byte.is_ascii_uppercase()) => UPPER,
-        Ok(_) => Why::Fields(order),
+        Ok(name) if is_upper_hex(name) => UPPER,
+        Ok(_) => unfit(order),
     }
+}
+
+// Whether a name would be hex if its letters were lower case.
+fn is_upper_hex(name: &str) -> bool {
+    name.bytes().all(|byte| byte.is_ascii_hexdigit())
+        && name.bytes().any(|byte| byte.is_ascii_uppercase())
 }
 
 fn why_told(text: &str) -> Why<'_> {
@@ -209,7 +197,7 @@ fn why_told(text: &str) -> Why<'_> {
     if REPLIES.iter().any(|name| *name == word) {
         return why_fields(word, fields);
     }
-    Why::Reply(word)
+    Why::Word("no reply is named ", word, "")
 }
 
 // Why these words behind a name don't fit.
@@ -225,7 +213,16 @@ fn why_fields<'a>(name: &'a str, fields: &'a str) -> Why<'a> {
         }
         rest = behind;
     }
-    Why::Fields(name)
+    unfit(name)
+}
+
+// What stands behind this name doesn't fit.
+fn unfit(name: &str) -> Why<'_> {
+    Why::Word(
+        "what stands behind ",
+        name,
+        " doesn't fit: see docs/TRACE.md",
+    )
 }
 
 // Why a word is no number up to the most that it may be, if it is none.
@@ -235,10 +232,10 @@ fn why_number(word: &str, most: u64) -> Option<Why<'_>> {
         return Some(SHORT);
     }
     if !bytes.iter().all(|byte| byte.is_ascii_digit()) {
-        return Some(Why::NoNumber(word));
+        return Some(Why::Word("", word, " is no number"));
     }
     if bytes.len() > 1 && bytes[0] == b'0' {
-        return Some(Why::Zero(word));
+        return Some(Why::Word("", word, " has a zero in front"));
     }
     match word.parse::<u64>() {
         Ok(number) if number <= most => None,

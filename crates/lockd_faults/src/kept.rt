@@ -2,33 +2,33 @@
 
 ghost use Rattle.std.specs.Prelude.{◌≡◌};
 
+use crate::fault::CommandFault;
+use crate::status::Status;
+use crate::verbose::{tell_hex, tell_streams};
+use std::alloc::Global;
 use std::io;
-use std::io::{ErrorKind, Read};
+use std::io::{ErrorKind, Read, Write};
 
-/// Reads what another reader has, and keeps it, if there is a text to keep it in; nothing, once memory runs out. It keeps
-/// why the last read that failed did so.
+/// Reads what another reader has, and keeps it, if it is given memory; nothing, once that runs out.
 #[derive(Drop)]
 pub struct Kept<R> {
     input: R,
+    tells: bool,
     text: Option<Vec<u8>>,
     failed: Option<ErrorKind>,
 }
 
 impl<R: Read> Kept<R> {
     /// Nothing was read yet.
-    pub fn new(input: R, text: Option<Vec<u8>>) -> Kept<R>
+    pub fn new(input: R, memory: Option<Global>) -> Kept<R>
         ensures { result.input ≡ input }
     {
         Kept {
             input,
-            text,
+            tells: memory.is_some(),
+            text: memory.map(Vec::new),
             failed: None,
         }
-    }
-
-    /// Why the last read that failed did so; none if none failed.
-    pub fn failed(&self) -> Option<ErrorKind> {
-        self.failed
     }
 
     // Keeps what was read.
@@ -44,8 +44,28 @@ impl<R: Read> Kept<R> {
         }
     }
 
-    /// The line of this number, from 1, with its newline if one ends it; none if it wasn't kept.
-    pub fn line(&self, number: usize) -> Option<&[u8]> {
+    /// Says more, if it was given memory, of a command that read lines of hex from an input of this name, and ended so.
+    /// The last write that failed did so for this reason.
+    pub fn tell<F: Write>(
+        &self,
+        to: &mut F,
+        status: Status,
+        name: &str,
+        unwritten: Option<ErrorKind>,
+    ) {
+        if !self.tells {
+            return;
+        }
+        tell_streams(to, status, self.failed, unwritten);
+        if let Status::Faulted(CommandFault::BadLine(n)) = status {
+            if let Some(line) = self.line(n) {
+                tell_hex(to, name, n, line);
+            }
+        }
+    }
+
+    // The line of this number, from 1, with its newline if one ends it; none if it wasn't kept.
+    fn line(&self, number: usize) -> Option<&[u8]> {
         let mut rest = self.text.as_ref()?.as_slice();
         for _ in 1..number {
             let end = rest.iter().position(|byte| *byte == b'\n')?;

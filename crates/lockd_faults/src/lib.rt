@@ -1,14 +1,13 @@
 //! How a command ends, and what it tells; whole inputs and outputs; a trace that is printed; lines of a text and
-//! lines of hex; a reader and a writer that keep what went wrong; why a line is bad, in words.
+//! lines of hex; readers and a writer that keep what went wrong, and what `--verbose` says of it.
 //!
 //! `tell` and `end` wrote the fault's line or a beginning of it, the empty one too, and their signatures give them no
 //! memory. Contracts see no failure of a reader or a writer. They let through:
 //! - a `read_all`, a `write_all`, a `print` or a `read_line` that is always refused;
 //! - a `write_all` or a `print` that doesn't flush its output, or takes a flush that failed for a good one;
 //! - a `tell` that tells nothing;
-//! - a `Watch` that sees other lines than were read, counts them wrongly, or finds another line or reply; a `Watched`, a
-//!   `Kept` or a `Noting` that keeps another reason, a `Kept` that keeps another text;
-//! - a `why_bad` or a `why_bad_hex` that gives another reason.
+//! - a `Noting` that keeps another reason;
+//! - all that is said of lines and of their reasons, where `--verbose` wants it, and where it doesn't.
 //! `lockd_commands_tests` and the scripts in `tools` refuse these.
 #![tactic(auto)]
 
@@ -22,10 +21,10 @@ mod printing;
 mod status;
 mod streams;
 mod verbose;
+mod watch;
 mod watched;
 mod witness;
 
-pub use bad_line::{Why, why_bad, why_bad_hex};
 pub use fault::{CommandFault, tell};
 pub use hex_lines::{push_line, read_line, split_line};
 pub use kept::Kept;
@@ -33,5 +32,5 @@ pub use noting::Noting;
 pub use printing::print;
 pub use status::{Status, end};
 pub use streams::{read_all, write_all};
-pub use verbose::{tell_hex, tell_lines, tell_streams};
-pub use watched::{Watch, Watched};
+pub use verbose::tell_streams;
+pub use watched::Watched;

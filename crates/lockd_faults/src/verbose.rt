@@ -3,13 +3,13 @@
 use crate::bad_line::{Why, why_bad, why_bad_hex};
 use crate::fault::CommandFault;
 use crate::status::Status;
-use crate::watched::Watch;
+use crate::watch::Watch;
 use std::fmt;
 use std::fmt::{Display, Formatter};
 use std::io::{ErrorKind, Write};
 
 /// Says more of how a command ended that read lines from an input of this name.
-pub fn tell_lines<W: Write>(to: &mut W, status: Status, name: &str, watch: &Watch) {
+pub(crate) fn tell_lines<W: Write>(to: &mut W, status: Status, name: &str, watch: &Watch) {
     match status {
         Status::Faulted(CommandFault::BadLine(n)) if watch.bad == Some(n) => {
             let why = why_bad(&watch.text, watch.takes_replies());
@@ -44,7 +44,7 @@ pub fn tell_streams<W: Write>(
 }
 
 /// Says which line of hex is bad, and why.
-pub fn tell_hex<W: Write>(to: &mut W, name: &str, n: usize, line: &[u8]) {
+pub(crate) fn tell_hex<W: Write>(to: &mut W, name: &str, n: usize, line: &[u8]) {
     tell_bad(to, name, n, line, why_bad_hex(line));
 }
 

@@ -1,19 +1,16 @@
-//! A reader whose lines are looked at on the way, for what a command doesn't say of them.
+//! A reader whose lines are looked at on the way.
 
-ghost use Rattle.std.specs.Prelude.{◌≡◌, IfOk};
-ghost use Rattle.lockd_faults.specs.Watched.{SawNothing};
+ghost use Rattle.std.specs.Prelude.{◌≡◌};
 
-use crate::hex_lines::split_line;
-use crate::witness::Witness;
+use crate::status::Status;
+use crate::verbose::{tell_lines, tell_streams};
+use crate::watch::Watch;
 use fl_core::Rules;
-use fl_history::Line;
-use fl_order::NoMemory;
-use fl_trace::{LINE_ROOM, first_line, push_line};
 use std::alloc::Global;
 use std::io;
-use std::io::{ErrorKind, Read};
+use std::io::{ErrorKind, Read, Write};
 
-/// Reads what another reader has. Its lines may be looked at on the way.
+/// Reads what another reader has. If it is given memory, lines are looked at on the way.
 #[derive(Drop)]
 pub struct Watched<R> {
     input: R,
@@ -22,10 +19,26 @@ pub struct Watched<R> {
 }
 
 impl<R: Read> Watched<R> {
-    /// Nothing was read yet.
-    pub fn new(input: R, watch: Option<Watch>) -> Watched<R>
+    /// Nothing was read yet, and all lines have to be orders.
+    pub fn of_orders(input: R, memory: Option<Global>) -> Watched<R>
         ensures { result.input ≡ input }
     {
+        Watched {
+            input,
+            watch: memory.map(Watch::of_orders),
+            failed: None,
+        }
+    }
+
+    /// Nothing was read yet, and so many lines have to be those of a trace that these rules judge. It takes memory for
+    /// one directory.
+    pub fn of_trace(input: R, memory: Option<Global>, rules: Rules, lines: usize) -> Watched<R>
+        ensures { result.input ≡ input }
+    {
+        let watch = match memory {
+            Some(alloc) => Watch::of_trace(alloc, rules, lines).ok(),
+            None => None,
+        };
         Watched {
             input,
             watch,
@@ -33,17 +46,20 @@ impl<R: Read> Watched<R> {
         }
     }
 
-    /// Why the last read that failed did so; none if none failed.
-    pub fn failed(&self) -> Option<ErrorKind> {
-        self.failed
-    }
-
-    /// What was seen of its lines, if they are looked at. No more is read.
-    pub fn seen(&mut self) -> Option<&Watch> {
+    /// Says more, if the lines were looked at, of a command that read an input of this name, and ended so. The last
+    /// write that failed did so for this reason.
+    pub fn tell<F: Write>(
+        &mut self,
+        to: &mut F,
+        status: Status,
+        name: &str,
+        unwritten: Option<ErrorKind>,
+    ) {
         if let Some(watch) = &mut self.watch {
             watch.end();
+            tell_streams(to, status, self.failed, unwritten);
+            tell_lines(to, status, name, watch);
         }
-        self.watch.as_ref()
     }
 }
 
@@ -62,151 +78,4 @@ impl<R: Read> Read for Watched<R> {
         }
         read
     }
-}
-
-/// What is looked for in the lines of an input, and what was seen. It takes memory for one directory if they are those
-/// of a trace, and for three lines. If there is none for these, less is seen.
-#[derive(Drop)]
-pub struct Watch {
-    /// How many lines ended.
-    pub lines: usize,
-    /// How many of them are orders.
-    pub orders: usize,
-    /// The number of the first line that is none of a trace, or no order where only orders may stand.
-    pub bad: Option<usize>,
-    /// The number of the first line before that which breaks the rules, or of the one after the last, if that is missing.
-    pub differs: Option<usize>,
-    /// The bad line, with its newline if one ends it, as far as there is room.
-    pub text: Vec<u8>,
-    /// The line that breaks the rules, with its newline; nothing if it is missing.
-    pub found: Vec<u8>,
-    /// The reply that the rules want in its place, as a line; nothing if they want an order.
-    pub wanted: Vec<u8>,
-    // So many lines are looked at, and no more.
-    most: usize,
-    // What the rules want next; none if only orders may stand there.
-    witness: Option<Witness>,
-}
-
-impl Watch {
-    /// Of so many lines of a trace, which these rules judge.
-    pub fn of_trace(alloc: Global, rules: Rules, lines: usize) -> Result<Watch, NoMemory>
-        ensures { IfOk result SawNothing }
-    {
-        let mut watch = Watch::of_orders(alloc);
-        watch.most = lines;
-        watch.witness = Some(Witness::new(alloc, rules)?);
-        Ok(watch)
-    }
-
-    /// Of orders alone.
-    pub fn of_orders(alloc: Global) -> Watch
-        ensures { SawNothing result }
-    {
-        Watch {
-            lines: 0,
-            orders: 0,
-            bad: None,
-            differs: None,
-            text: Vec::new(alloc),
-            found: Vec::new(alloc),
-            wanted: Vec::new(alloc),
-            most: usize::MAX,
-            witness: None,
-        }
-    }
-
-    // These bytes come next.
-    fn see(&mut self, piece: &[u8]) {
-        let mut rest = piece;
-        for _ in 0..piece.len() {
-            let Some((line, behind)) = split_line(rest) else {
-                break;
-            };
-            self.add(line);
-            self.end_line();
-            rest = behind;
-        }
-        self.add(rest);
-    }
-
-    // Nothing that comes is looked at.
-    fn is_over(&self) -> bool {
-        self.bad.is_some() || self.lines >= self.most
-    }
-
-    // These bytes of a line come next, none of them a newline.
-    fn add(&mut self, part: &[u8]) {
-        if !self.is_over() {
-            let room = LINE_ROOM.saturating_sub(self.text.len());
-            let count = part.len().min(room);
-            let _ = self.text.extend_from_slice(&part[..count]);
-        }
-    }
-
-    // The line ends.
-    fn end_line(&mut self) {
-        if self.is_over() {
-            return;
-        }
-        self.lines = self.lines.saturating_add(1);
-        let _ = self.text.push(b'\n');
-        match first_line(&self.text) {
-            Some((line, _)) if self.takes_replies() || is_order(&line) => {
-                self.judge(&line);
-                self.text.clear();
-            }
-            _ => self.bad = Some(self.lines),
-        }
-    }
-
-    /// Whether replies may stand in the input.
-    pub fn takes_replies(&self) -> bool {
-        self.witness.is_some()
-    }
-
-    // This line of the input is good.
-    fn judge(&mut self, line: &Line) {
-        if is_order(line) {
-            self.orders = self.orders.saturating_add(1);
-        }
-        if let (None, Some(witness)) = (self.differs, &mut self.witness) {
-            if !witness.take(line) {
-                self.differs = Some(self.lines);
-                let _ = self.found.extend_from_slice(&self.text);
-                self.want();
-            }
-        }
-    }
-
-    // Keeps the text of the reply that has to come next.
-    fn want(&mut self) {
-        let due = self.witness.as_ref().and_then(|witness| witness.due());
-        if let Some(due) = due {
-            if self.wanted.reserve(LINE_ROOM).is_ok() {
-                push_line(&mut self.wanted, &Line::Told(due));
-            }
-        }
-    }
-
-    // Nothing more comes.
-    fn end(&mut self) {
-        let next = self.lines.saturating_add(1);
-        if self.is_over() {
-            return;
-        }
-        if self.differs.is_none() {
-            self.want();
-            if !self.wanted.is_empty() {
-                self.differs = Some(next);
-            }
-        }
-        if !self.text.is_empty() {
-            self.bad = Some(next);
-        }
-    }
-}
-
-fn is_order(line: &Line) -> bool {
-    matches!(line, Line::Asked { .. })
 }

@@ -1,6 +1,6 @@
--- What was seen of the lines of an input.
+-- What was seen of the lines of an input. No public clause cites this module.
 use Rattle.std.specs.Prelude.{◌≡◌, None}
-use Rattle.lockd_faults.specs.declared.watched.Watch.{Watch}
+use Rattle.lockd_faults.specs.declared.watch.Watch.{Watch}
 
 -- no line was seen
 abbrev pub SawNothing : Watch → Type 0

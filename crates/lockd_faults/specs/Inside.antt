@@ -1,0 +1,2 @@
+-- What this crate keeps to itself. No public clause cites this module.
+pub mod Watch
