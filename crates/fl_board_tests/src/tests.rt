@@ -1,7 +1,8 @@
 //! Tests of a board and of looks, by what is public of it.
 
-ghost use Rattle.std.specs.Prelude.{◌≡◌, ◌<◌, ◌≤◌};
+ghost use Rattle.std.specs.Prelude.{◌≡◌, ◌<◌, ◌≤◌, true};
 ghost use Rattle.fl_core.specs.Tolds.{HasRoom};
+ghost use Rattle.fl_order.specs.Order.{only_reads};
 
 mod fair;
 mod looks;
@@ -43,17 +44,22 @@ fn create(rt: &impl Abort) -> Order {
     order(1, 1, op)
 }
 
-// A write lock of an owner on the bytes up to the last.
-fn upto(owner: u64, last: u64) -> LockAsk {
+// A lock of an owner on the bytes `start` to `end` of that file, or an unlock.
+fn lock(owner: u64, start: u64, end: u64, kind: u32) -> LockAsk {
     LockAsk {
         fh: 1,
         owner,
-        start: 0,
-        end: last,
-        kind: 1,
+        start,
+        end,
+        kind,
         pid: 11,
         flags: 0,
     }
+}
+
+// A write lock of an owner on the bytes up to the last.
+fn upto(owner: u64, last: u64) -> LockAsk {
+    lock(owner, 0, last, 1)
 }
 
 // Hands in an order, which is taken.
@@ -69,6 +75,18 @@ fn take<L: BoardName, R: Wait + Abort>(
 {
     let handed = board.hand_in(rt, seat, order, tolds).is_ok();
     assert!(rt; handed);
+}
+
+// What a seat is shown.
+fn see<L: BoardName, R: Wait + Abort>(
+    rt: &R,
+    board: &Board<L, &R>,
+    seat: &mut Seat<L>,
+    order: &Order,
+) -> Result<Answer, Errno>
+    requires { only_reads order.now.op ≡ true }
+{
+    board.look(seat, order).ok().expect(rt, "a view")
 }
 
 // A board, and its seats.

@@ -3,7 +3,7 @@
 ghost use Rattle.std.specs.Prelude.{◌≡◌};
 ghost use Rattle.fl_core.specs.Tolds.{HasRoom};
 
-use super::{closed, is_answer, is_judged, new_tolds, opened, order, take, upto};
+use super::{closed, is_answer, is_judged, new_tolds, opened, order, see, take, upto};
 use fl_board::{Ask, Board, BoardName, FreshLog, Seat};
 use fl_core::{Rules, Tolds};
 use fl_desk::Verdict;
@@ -45,8 +45,7 @@ fn who_locks<L: BoardName, R: Wait + Abort>(
     seats: &mut [Seat<L>],
 ) -> Result<Answer, Errno> {
     let seat = seats.first_mut().expect(rt, "a seat");
-    let ask = order(90, 2, Op::Getlk(upto(7, 0)));
-    board.look(seat, &ask).ok().expect(rt, "a view")
+    see(rt, board, seat, &order(90, 2, Op::Getlk(upto(7, 0))))
 }
 
 // The order of a line, if it asks one, is handed in at its worker's seat.

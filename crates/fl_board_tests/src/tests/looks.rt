@@ -3,7 +3,7 @@
 ghost use Rattle.std.specs.Prelude.{◌≡◌};
 ghost use Rattle.fl_core.specs.Tolds.{HasRoom};
 
-use super::{closed, create, is_answer, is_judged, new_tolds, opened, order, take, upto};
+use super::{closed, create, is_answer, is_judged, new_tolds, opened, order, see, take, upto};
 use fl_board::{Ask, Board, BoardName, FreshLog, Seat};
 use fl_core::{Rules, Tolds};
 use fl_desk::Verdict;
@@ -21,8 +21,7 @@ fn who_locks<L: BoardName, R: Wait + Abort>(
     board: &Board<L, &R>,
     seat: &mut Seat<L>,
 ) -> Result<Answer, Errno> {
-    let ask = order(90, 2, Op::Getlk(upto(8, 0)));
-    board.look(seat, &ask).ok().expect(rt, "a view")
+    see(rt, board, seat, &order(90, 2, Op::Getlk(upto(8, 0))))
 }
 
 // The attributes of node 2.
@@ -31,8 +30,7 @@ fn attributes<L: BoardName, R: Wait + Abort>(
     board: &Board<L, &R>,
     seat: &mut Seat<L>,
 ) -> Result<Answer, Errno> {
-    let ask = order(91, 2, Op::Getattr);
-    board.look(seat, &ask).ok().expect(rt, "a view")
+    see(rt, board, seat, &order(91, 2, Op::Getattr))
 }
 
 // What the second of two seats was shown before the first one's orders, and what both were shown once they met.

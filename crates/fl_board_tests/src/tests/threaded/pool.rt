@@ -3,12 +3,13 @@
 ghost use Rattle.std.specs.Prelude.{◌≡◌, ◌<◌, ◌≤◌};
 ghost use Rattle.fl_core.specs.Tolds.{HasRoom};
 
+use super::super::{create, is_judged, new_tolds, order, see, take};
 use super::threads::{Orders, made};
-use super::{create, order, rounds, take, watched};
+use super::{rounds, watched};
 use fl_board::{Ask, Board, BoardName, FreshLog, Seat};
 use fl_core::{Rules, Tolds};
-use fl_desk::{Verdict, check};
-use fl_history::{History, Line};
+use fl_desk::Verdict;
+use fl_history::History;
 use fl_order::{Op, Order};
 use std::alloc::Global;
 use std::marker::Brand;
@@ -129,9 +130,7 @@ fn hand_in<L: BoardName, R: Wait + Abort>(
 
 // The seat looks, and is shown something.
 fn look<L: BoardName, R: Wait + Abort>(pool: &WorkerPool<'_, L, R>, seat: &mut Seat<L>) {
-    let order = order(1_000, 2, Op::Getattr);
-    let shown = pool.board.look(seat, &order).is_ok();
-    assert!(pool.rt; shown);
+    let _ = see(pool.rt, &pool.board, seat, &order(1_000, 2, Op::Getattr));
 }
 
 // The first seat meets the second, if there is one.
@@ -144,9 +143,8 @@ fn meet<L: BoardName, R: Wait + Abort>(pool: &WorkerPool<'_, L, R>, seats: &mut 
 
 // The seat is shown no fewer locks than before. It says whether there are more to come.
 fn watch<L: BoardName, R: Wait + Abort>(pool: &WorkerPool<'_, L, R>, seat: &mut Seat<L>) -> bool {
-    let shown = pool.board.look(seat, &watched::asked()).ok();
-    let locked = watched::locked(shown.expect(pool.rt, "a view"));
-    pool.counts.show(pool.rt, locked)
+    let shown = see(pool.rt, &pool.board, seat, &watched::asked());
+    pool.counts.show(pool.rt, watched::locked(shown))
 }
 
 // The first of these seats does its step of a round. It says whether there are more to come.
@@ -178,7 +176,7 @@ fn work<L: BoardName, R: Wait + Abort>(
     seats: Vec<Seat<L>>,
 ) -> Vec<Seat<L>> {
     let mut seats = seats;
-    let mut tolds = Tolds::new(pool.alloc, pool.rules).expect(pool.rt, "memory");
+    let mut tolds = new_tolds(pool.rt, pool.alloc, pool.rules);
     for round in 0..100_000_000 {
         if !go(pool, &mut seats, round, &mut tolds) {
             return seats;
@@ -222,7 +220,7 @@ fn run<L: BoardName + Send + Sync, R: Threads + Wait + Sync + Abort>(
 
 // The first seat makes a file, and then meets the second.
 fn begin<L: BoardName, R: Wait + Abort>(pool: &WorkerPool<'_, L, R>, seats: &mut [Seat<L>]) {
-    let mut tolds = Tolds::new(pool.alloc, pool.rules).expect(pool.rt, "memory");
+    let mut tolds = new_tolds(pool.rt, pool.alloc, pool.rules);
     if let Some(first) = seats.first_mut() {
         hand_in(pool, first, &create(pool.rt), &mut tolds);
     }
@@ -265,11 +263,6 @@ fn closed<L: BoardName + Send + Sync, R: Threads + Wait + Sync + Abort>(
     }
 }
 
-fn is_legal(rt: &impl Abort, alloc: Global, history: &History, rules: Rules) {
-    let verdict = check(alloc, history, rules).expect(rt, "memory");
-    assert_eq!(rt; verdict, Verdict::Legal);
-}
-
 /// The history of a board of so many workers, at which a file is made, and then all seats work. It is legal.
 pub(super) fn history_of<R: Threads + Wait + Sync + Abort>(
     rt: &R,
@@ -284,6 +277,6 @@ pub(super) fn history_of<R: Threads + Wait + Sync + Abort>(
     let log = FreshLog::new();
     let rules = Rules::standard();
     let history = closed::<Brand, _>(rt, alloc, blank, log, workers, rules, counts, plan);
-    is_legal(rt, alloc, &history, rules);
+    is_judged(rt, alloc, &history, rules, Verdict::Legal);
     history
 }

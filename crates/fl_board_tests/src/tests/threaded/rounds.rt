@@ -1,7 +1,8 @@
 //! Seats that hand in, look and meet in several threads, in rounds.
 
+use super::super::{lock, order};
 use super::pool::{Counts, Job, Plan, Step, history_of};
-use super::{lock, order, roll};
+use super::roll;
 use fl_history::{History, Line};
 use fl_order::Op;
 use std::process::Abort;

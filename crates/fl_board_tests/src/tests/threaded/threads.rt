@@ -2,8 +2,9 @@
 
 ghost use Rattle.std.specs.Prelude.{◌<◌, ◌≤◌};
 
+use super::super::{create, lock, order};
 use super::pool::{Counts, Job, Plan, history_of};
-use super::{create, lock, order, roll};
+use super::roll;
 use fl_history::{History, Line};
 use fl_order::{Answer, Errno, Op, Order};
 use std::alloc::Global;

@@ -3,8 +3,8 @@
 ghost use Rattle.std.specs.Prelude.{◌≡◌, true};
 ghost use Rattle.fl_order.specs.Order.{only_reads};
 
+use super::super::{lock, order};
 use super::pool::{Counts, Job, Plan, Step, history_of};
-use super::{lock, order};
 use fl_history::History;
 use fl_order::{Answer, Errno, Op, Order};
 use std::process::Abort;
