@@ -1,7 +1,7 @@
-//! What is seen of the lines of an input on their way to a command, which come in pieces.
+//! What is said besides of the lines of an input, which come in pieces.
 
 use fl_testing::{Source, Trouble};
-use lockd_commands::{CheckOptions, Rules, Watch, Watched, check_on, script_on};
+use lockd_commands::{CheckOptions, Rules, Status, Watched, check_on, script_on};
 use std::alloc::Global;
 use std::io::ErrorKind;
 use std::process::Abort;
@@ -16,169 +16,138 @@ ask 0 3 2 0 0 0 setlk 1 8 9 9 0 12 0
 tell 3 err 11
 ";
 
-// Lines, orders, the bad line, and the line that breaks the rules.
-type Counts = (usize, usize, Option<usize>, Option<usize>);
-
-// What is seen of a text while `check` reads it in pieces of so many bytes: these counts, and the texts of the bad
-// line, of the line that breaks the rules, and of the reply that they want.
-fn is_seen(
+// What is said of an input that a command read, and that ended so.
+fn says(
     rt: &impl Abort,
     alloc: Global,
-    text: &[u8],
-    most: usize,
-    counts: Counts,
-    lines: [&str; 3],
+    input: &mut Watched<Source<'_>>,
+    status: Status,
+    wanted: &str,
 ) {
-    is_seen_of(rt, alloc, text, most, usize::MAX, counts, lines);
-}
-
-// The same, where only so many lines are looked at.
-fn is_seen_of(
-    rt: &impl Abort,
-    alloc: Global,
-    text: &[u8],
-    most: usize,
-    first: usize,
-    counts: Counts,
-    lines: [&str; 3],
-) {
-    let rules = Rules::standard();
-    let options = CheckOptions {
-        tells_quiet: false,
-        cut: false,
-    };
-    let watch = Watch::of_trace(alloc, rules, first).expect(rt, "memory");
-    let source = Source::new(text, most, Trouble::none());
-    let mut input = Watched::new(source, Some(watch));
-    let mut printed = Vec::new(alloc);
-    let mut told = Vec::new(alloc);
-    check_on(alloc, rules, options, &mut input, &mut printed, &mut told);
-    assert!(rt; input.failed().is_none());
-    let seen = input.seen().expect(rt, "a watch");
-    is(rt, seen, counts, lines);
-}
-
-fn is(rt: &impl Abort, seen: &Watch, counts: Counts, lines: [&str; 3]) {
-    assert!(rt; (seen.lines, seen.orders, seen.bad, seen.differs) == counts);
-    let [bad, found, wanted] = lines;
-    is_text(rt, &seen.text, bad);
-    is_text(rt, &seen.found, found);
-    is_text(rt, &seen.wanted, wanted);
+    let mut said = Vec::new(alloc);
+    input.tell(&mut said, status, "a text", None);
+    is_text(rt, &said, wanted);
 }
 
 fn is_text(rt: &impl Abort, found: &[u8], wanted: &str) {
     assert_eq!(rt; found, wanted.as_bytes());
 }
 
+// What is said of a text that `check` reads in pieces of so many bytes.
+fn checks(rt: &impl Abort, alloc: Global, text: &[u8], most: usize, wanted: &str) {
+    checks_first(rt, alloc, text, most, usize::MAX, wanted);
+}
+
+// The same, where only so many lines are looked at.
+fn checks_first(
+    rt: &impl Abort,
+    alloc: Global,
+    text: &[u8],
+    most: usize,
+    first: usize,
+    wanted: &str,
+) {
+    let rules = Rules::standard();
+    let options = CheckOptions {
+        tells_quiet: false,
+        cut: false,
+    };
+    let source = Source::new(text, most, Trouble::none());
+    let mut input = Watched::of_trace(source, Some(alloc), rules, first);
+    let mut printed = Vec::new(alloc);
+    let mut told = Vec::new(alloc);
+    let status = check_on(alloc, rules, options, &mut input, &mut printed, &mut told);
+    says(rt, alloc, &mut input, status, wanted);
+}
+
+const NO_ORDER_BUT_ANOTHER: &str = "\
+line 2 of a text: x
+it begins with x, and with neither ask nor tell
+";
+
 #[test]
 fn lines_in_pieces_of_each_size(rt: HostRuntime) {
     let alloc = rt.alloc();
     let whole = WHOLE.as_bytes();
     for most in [1, 7, 32, 1000] {
-        is_seen(&rt, alloc, b"", most, (0, 0, None, None), ["", "", ""]);
-        is_seen(&rt, alloc, whole, most, (6, 3, None, None), ["", "", ""]);
-        let lines = ["", "", "tell 3 err 11\n"];
-        is_seen(
-            &rt,
-            alloc,
-            &whole[..144],
-            most,
-            (5, 3, None, Some(6)),
-            lines,
-        );
-        let lines = ["tell 2 o", "", "tell 2 ok\n"];
-        is_seen(
-            &rt,
-            alloc,
-            &whole[..105],
-            most,
-            (3, 2, Some(4), Some(4)),
-            lines,
-        );
+        checks(&rt, alloc, b"", most, "0 lines, 0 orders\n");
+        checks(&rt, alloc, whole, most, "6 lines, 3 orders\n");
+        checks(&rt, alloc, &whole[..144], most, A_REPLY_IS_MISSING);
+        checks(&rt, alloc, &whole[..105], most, A_LINE_IS_CUT_OFF);
     }
 }
 
+const A_REPLY_IS_MISSING: &str = "\
+line 6 of a text is missing
+the rules want: tell 3 err 11
+perhaps it was made by other rules: --fair, --runs, --parked, --files or --open
+";
+
+const A_LINE_IS_CUT_OFF: &str = "\
+line 4 of a text: tell 2 o
+no newline ends it: check --cut drops the end of a trace that was cut off
+";
+
 #[test]
 fn the_first_lines_alone(rt: HostRuntime) {
-    let alloc = rt.alloc();
     let text = b"tell 1 ok\nx\ny\n";
     for most in [1, 5, 1000] {
-        let none = ["", "", ""];
-        is_seen_of(&rt, alloc, text, most, 0, (0, 0, None, None), none);
-        let first = ["", "tell 1 ok\n", ""];
-        is_seen_of(&rt, alloc, text, most, 1, (1, 0, None, Some(1)), first);
-        let second = ["x\n", "tell 1 ok\n", ""];
-        is_seen_of(&rt, alloc, text, most, 2, (2, 0, Some(2), Some(1)), second);
+        checks_first(&rt, rt.alloc(), text, most, 0, "");
+        checks_first(&rt, rt.alloc(), text, most, 1, "");
+        checks_first(&rt, rt.alloc(), text, most, 2, NO_ORDER_BUT_ANOTHER);
     }
 }
 
 #[test]
 fn lines_that_are_wrong(rt: HostRuntime) {
-    let alloc = rt.alloc();
-    let lines = ["", "tell 1 ok\n", ""];
-    is_seen(
-        &rt,
-        alloc,
-        b"tell 1 ok\ntell 2 ok\n",
-        8,
-        (2, 0, None, Some(1)),
-        lines,
-    );
-    let lines = ["x\n", "tell 1 ok\n", ""];
-    is_seen(
-        &rt,
-        alloc,
-        b"tell 1 ok\nx\ny\n",
-        8,
-        (2, 0, Some(2), Some(1)),
-        lines,
-    );
+    let two = b"tell 1 ok\ntell 2 ok\n";
+    checks(&rt, rt.alloc(), two, 8, NO_REPLY_IS_DUE);
+    let bad = b"tell 1 ok\nx\ny\n";
+    checks(&rt, rt.alloc(), bad, 8, NO_ORDER_BUT_ANOTHER);
 }
 
-// What is seen of a script.
-fn is_script(rt: &impl Abort, alloc: Global, text: &[u8], counts: Counts, bad: &str) {
-    let source = Source::new(text, 8, Trouble::none());
-    let mut input = Watched::new(source, Some(Watch::of_orders(alloc)));
+const NO_REPLY_IS_DUE: &str = "\
+line 1 of a text: tell 1 ok
+the rules want an order there: no reply is due
+perhaps it was made by other rules: --fair, --runs, --parked, --files or --open
+";
+
+// What is said of a text that `script` reads from a source, if more is to be said.
+fn runs(rt: &impl Abort, alloc: Global, source: Source<'_>, memory: Option<Global>, wanted: &str) {
+    let rules = Rules::standard();
+    let mut input = Watched::of_orders(source, memory);
     let mut printed = Vec::new(alloc);
     let mut told = Vec::new(alloc);
-    script_on(
-        alloc,
-        Rules::standard(),
-        &mut input,
-        &mut printed,
-        &mut told,
-    );
-    let seen = input.seen().expect(rt, "a watch");
-    assert!(rt; !seen.takes_replies());
-    is(rt, seen, counts, [bad, "", ""]);
+    let status = script_on(alloc, rules, &mut input, &mut printed, &mut told);
+    says(rt, alloc, &mut input, status, wanted);
 }
 
 #[test]
 fn scripts(rt: HostRuntime) {
-    let whole = WHOLE.as_bytes();
-    is_script(&rt, rt.alloc(), &whole[..32], (1, 1, None, None), "");
-    is_script(
-        &rt,
-        rt.alloc(),
-        whole,
-        (2, 1, Some(2), None),
-        "tell 1 made 2 33188 1 0 0 1\n",
-    );
+    let (alloc, whole) = (rt.alloc(), WHOLE.as_bytes());
+    let one = Source::new(&whole[..32], 8, Trouble::none());
+    runs(&rt, alloc, one, Some(alloc), "1 line, 1 order\n");
+    let all = Source::new(whole, 8, Trouble::none());
+    runs(&rt, alloc, all, Some(alloc), A_REPLY_IN_A_SCRIPT);
 }
+
+const A_REPLY_IN_A_SCRIPT: &str = "\
+line 2 of a text: tell 1 made 2 33188 1 0 0 1
+a script has orders alone: leave out the replies
+";
 
 #[test]
 fn a_read_that_fails(rt: HostRuntime) {
-    let trouble = Trouble::behind(1, Some(ErrorKind::ConnectionReset));
-    let mut input = Watched::new(Source::new(WHOLE.as_bytes(), 8, trouble), None);
-    let mut printed = Vec::new(rt.alloc());
-    let mut told = Vec::new(rt.alloc());
-    script_on(
-        rt.alloc(),
-        Rules::standard(),
-        &mut input,
-        &mut printed,
-        &mut told,
-    );
-    assert!(rt; input.failed() == Some(ErrorKind::ConnectionReset));
-    assert!(rt; input.seen().is_none());
+    let alloc = rt.alloc();
+    for (memory, wanted) in [
+        (
+            Some(alloc),
+            "standard input can't be read: connection reset\n",
+        ),
+        (None, ""),
+    ] {
+        let trouble = Trouble::behind(1, Some(ErrorKind::ConnectionReset));
+        let source = Source::new(WHOLE.as_bytes(), 8, trouble);
+        runs(&rt, alloc, source, memory, wanted);
+    }
 }
