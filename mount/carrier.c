@@ -384,11 +384,10 @@ static ssize_t write_replies(char *bytes, size_t held)
         if (is_a_line(&head))
             count(&it.lines);
         size_t left = change_reply(bytes + done, head.len);
-        // Before it is written: who gets it may call again at once, and the other thread keep that call.
-        if (it.resumes)
-            kept_answered(head.unique);
         if (left && !write_reply(bytes + done, left))
             return -2;
+        if (it.resumes)
+            kept_answered(head.unique);
         count(&it.replies);
     }
     return (ssize_t)done;
