@@ -5,7 +5,8 @@
 # Prints pairs of SETLK and unlock a second while the session runs and their ratios to `--trace none`; how much memory the
 # process had at most (VmHWM of /proc), beside that of a session with a tenth of the messages; and what `lockd check` says of each trace.
 # With --resume it times `--trace FILE` and `--resume FILE` alone, with 64 messages and with 1 under way, and prints the ratios of their
-# pairs; then how long a server takes that resumes from the lines of all messages, to what `lockd check` takes of them.
+# pairs; then how long a server takes that resumes from the lines of all messages, to what `lockd check` takes of them: medians of 15 runs
+# in turn, since the best of a few says little where others use the machine.
 # The runs take turns, three times, and the best of each figure counts. It builds the client of bench/peers.sh, by a C compiler.
 #
 #     bench/trace.sh [--resume] [MESSAGES]
@@ -15,7 +16,7 @@ cc -O2 -Wall -Wextra -o "$work/client" bench/peers/client.c
 desk=
 if [ "${1:-}" = --resume ]; then shift; else desk=$(tools/build_bench history_bench); fi
 python3 - "$program" "$work" "${1:-1000000}" "$desk" <<'END'
-import itertools, os, socket, struct, subprocess, sys, time
+import itertools, os, socket, statistics, struct, subprocess, sys, time
 
 PROGRAM, WORK, MESSAGES, DESK = *sys.argv[1:3], int(sys.argv[3]), sys.argv[4]
 ROUNDS, LONGEST = 3, 300
@@ -107,11 +108,11 @@ def by_resuming():
         for window in 1, 64:
             for mode in "file", "resume":
                 best[mode, window] = max(best.get((mode, window), 0), measured(mode, 1, messages[window], window)[0])
-        again.append(read_again())
+        again += [read_again() for _ in range(5)]
     for window in messages:
         pairs = best["resume", window]
         print(f"resume, {window} under way: {pairs:.0f} pairs a second, ratio {pairs / best['file', window]:.2f} (to trace file)")
-    served, checked = map(min, zip(*again))
+    served, checked = map(statistics.median, zip(*again))
     print(f"resume of the lines of {MESSAGES} messages: {served:.2f} s, ratio {served / checked:.2f} (to check)")
 
 if DESK:
