@@ -45,6 +45,7 @@ pub(crate) fn locks(
     json: bool,
 ) -> Status {
     let (rt, alloc) = (host.rt, host.rt.alloc());
+    // Matches, since each closure would take the prover some 20 seconds.
     let at = match at {
         Some(lines) => Some(lines as usize),
         None => None,

@@ -7,7 +7,7 @@
 //! - a `write_all` or a `print` that doesn't flush its output, or takes a flush that failed for a good one;
 //! - a `tell` that tells nothing;
 //! - a `Noting` that keeps another reason;
-//! - all that is said of lines and of their reasons, where `--verbose` wants it, and where it doesn't.
+//! - a `Watched`, a `Kept` or a `tell_streams` that says anything else, or says it without `--verbose`.
 //! `lockd_commands_tests` and the scripts in `tools` refuse these.
 #![tactic(auto)]
 

@@ -1,4 +1,4 @@
-//! What a command doesn't say of the lines that it read.
+//! What `--verbose` finds in lines.
 
 ghost use Rattle.std.specs.Prelude.{◌≡◌, IfOk};
 ghost use Rattle.lockd_faults.specs.Inside.Watch.{SawNothing};
@@ -19,7 +19,7 @@ pub(crate) struct Watch {
     pub lines: usize,
     /// How many of them are orders.
     pub orders: usize,
-    /// The number of the first line that is none of a trace, or no order where only orders may stand.
+    /// The number of the first line that isn't one of a trace, or isn't an order where only orders may stand.
     pub bad: Option<usize>,
     /// The number of the first line before that which breaks the rules, or of the one after the last, if that is missing.
     pub differs: Option<usize>,
@@ -29,7 +29,7 @@ pub(crate) struct Watch {
     pub found: Vec<u8>,
     /// The reply that the rules want in its place, as a line; nothing if they want an order.
     pub wanted: Vec<u8>,
-    // So many lines are looked at, and no more.
+    // How many lines are looked at, at most.
     most: usize,
     // What the rules want next; none if only orders may stand there.
     witness: Option<Witness>,

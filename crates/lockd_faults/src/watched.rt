@@ -10,10 +10,11 @@ use std::alloc::Global;
 use std::io;
 use std::io::{ErrorKind, Read, Write};
 
-/// Reads what another reader has. If it is given memory, lines are looked at on the way.
+/// Reads what another reader has. If it is given memory, lines are looked at on the way, as long as that suffices.
 #[derive(Drop)]
 pub struct Watched<R> {
     input: R,
+    tells: bool,
     watch: Option<Watch>,
     failed: Option<ErrorKind>,
 }
@@ -25,6 +26,7 @@ impl<R: Read> Watched<R> {
     {
         Watched {
             input,
+            tells: memory.is_some(),
             watch: memory.map(Watch::of_orders),
             failed: None,
         }
@@ -41,13 +43,14 @@ impl<R: Read> Watched<R> {
         };
         Watched {
             input,
+            tells: memory.is_some(),
             watch,
             failed: None,
         }
     }
 
-    /// Says more, if the lines were looked at, of a command that read an input of this name, and ended so. The last
-    /// write that failed did so for this reason.
+    /// Says more, if it was given memory, of a command that read an input of this name, and ended so. The last write
+    /// that failed did so for this reason.
     pub fn tell<F: Write>(
         &mut self,
         to: &mut F,
@@ -55,9 +58,12 @@ impl<R: Read> Watched<R> {
         name: &str,
         unwritten: Option<ErrorKind>,
     ) {
+        if !self.tells {
+            return;
+        }
+        tell_streams(to, status, self.failed, unwritten);
         if let Some(watch) = &mut self.watch {
             watch.end();
-            tell_streams(to, status, self.failed, unwritten);
             tell_lines(to, status, name, watch);
         }
     }

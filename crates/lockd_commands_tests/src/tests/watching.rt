@@ -60,7 +60,7 @@ fn checks_first(
     says(rt, alloc, &mut input, status, wanted);
 }
 
-const NO_ORDER_BUT_ANOTHER: &str = "\
+const NEITHER_ASK_NOR_TELL: &str = "\
 line 2 of a text: x
 it begins with x, and with neither ask nor tell
 ";
@@ -94,7 +94,9 @@ fn the_first_lines_alone(rt: HostRuntime) {
     for most in [1, 5, 1000] {
         checks_first(&rt, rt.alloc(), text, most, 0, "");
         checks_first(&rt, rt.alloc(), text, most, 1, "");
-        checks_first(&rt, rt.alloc(), text, most, 2, NO_ORDER_BUT_ANOTHER);
+        checks_first(&rt, rt.alloc(), text, most, 2, NEITHER_ASK_NOR_TELL);
+        let whole = WHOLE.as_bytes();
+        checks_first(&rt, rt.alloc(), whole, most, 2, "2 lines, 1 order\n");
     }
 }
 
@@ -103,7 +105,7 @@ fn lines_that_are_wrong(rt: HostRuntime) {
     let two = b"tell 1 ok\ntell 2 ok\n";
     checks(&rt, rt.alloc(), two, 8, NO_REPLY_IS_DUE);
     let bad = b"tell 1 ok\nx\ny\n";
-    checks(&rt, rt.alloc(), bad, 8, NO_ORDER_BUT_ANOTHER);
+    checks(&rt, rt.alloc(), bad, 8, NEITHER_ASK_NOR_TELL);
 }
 
 const NO_REPLY_IS_DUE: &str = "\

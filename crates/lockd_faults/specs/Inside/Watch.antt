@@ -1,4 +1,4 @@
--- What was seen of the lines of an input. No public clause cites this module.
+-- What was seen of the lines of an input.
 use Rattle.std.specs.Prelude.{◌≡◌, None}
 use Rattle.lockd_faults.specs.declared.watch.Watch.{Watch}
 
