@@ -411,6 +411,7 @@ static int end_unexpected(enum end end, int fault)
 int main(int argc, char **argv)
 {
     open_standard_files();
+    say_without_waiting();
     read_options(argc, argv, &it.options);
     take_signals();
     begin();

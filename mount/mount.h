@@ -51,8 +51,10 @@ void read_options(int argc, char **argv, struct options *options);
 // name too if there is one.
 void say(const char *what, ...) __attribute__((format(printf, 1, 2)));
 void fail(const char *what, ...) __attribute__((format(printf, 1, 2), noreturn));
-// A line with its newline on standard error. If nobody reads for a second, as at a stopped terminal, it is lost, and so are the
-// next ones until somebody does: the mount doesn't wait.
+// From here on no line waits for more than a second.
+void say_without_waiting(void);
+// A line with its newline on standard error. If nobody reads for a second, as at a stopped terminal, what has no room is lost, and so
+// are the next lines until somebody does.
 void say_line(const char *line, size_t size);
 // What the service manager reads, where one started the program.
 void notify(const char *what, ...) __attribute__((format(printf, 1, 2)));

@@ -2,27 +2,46 @@
 #include "mount.h"
 
 #include <errno.h>
+#include <fcntl.h>
 #include <poll.h>
 #include <stdarg.h>
 #include <stdio.h>
 #include <stdlib.h>
 #include <string.h>
 #include <sys/socket.h>
+#include <sys/stat.h>
 #include <sys/un.h>
 #include <unistd.h>
 
 enum { LINE = 4096 + 512 };
-enum { PATIENCE = 1000 }; // milliseconds
+enum { PATIENCE = 1000, TRIES = 64 }; // PATIENCE: milliseconds
 
-// One write, so that lines of two threads don't mix.
+// Where lines go. A pipe or a terminal is opened once more, since all who have one open share whether its writes wait.
+static int errors = STDERR_FILENO;
+
+void say_without_waiting(void)
+{
+    struct stat at;
+    if (fstat(STDERR_FILENO, &at) || (!S_ISFIFO(at.st_mode) && !isatty(STDERR_FILENO)))
+        return;
+    int opened = open("/proc/self/fd/2", O_WRONLY | O_NONBLOCK | O_NOCTTY | O_CLOEXEC);
+    if (opened >= 0)
+        errors = opened;
+}
+
+// One write where there is room, so that lines of two threads don't mix.
 void say_line(const char *line, size_t size)
 {
     static atomic_int patience = PATIENCE;
-    struct pollfd to = {.fd = STDERR_FILENO, .events = POLLOUT};
-    bool is_read = poll(&to, 1, patience) > 0;
-    patience = is_read ? PATIENCE : 0;
-    if (is_read && write(STDERR_FILENO, line, size) < 0)
-        return;
+    struct pollfd to = {.fd = errors, .events = POLLOUT};
+    for (int tries = 0; size && tries < TRIES && poll(&to, 1, patience) > 0; tries++) {
+        ssize_t written = write(errors, line, size);
+        if (written < 0 && errno != EAGAIN && errno != EINTR)
+            break;
+        line += written > 0 ? written : 0;
+        size -= written > 0 ? (size_t)written : 0;
+    }
+    patience = size ? 0 : PATIENCE;
 }
 
 static void say_with(int error, const char *what, va_list words)

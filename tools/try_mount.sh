@@ -39,9 +39,11 @@ fi
 # What a try has left mounted is there as long as the namespace is.
 work=$(mktemp -d "${TMPDIR:-/tmp}/try_mount.XXXXXX")
 trap 'rm -rf "$work"' EXIT
-trap 'exit 1' HUP INT TERM
-# All processes are in a namespace of their own, so that none is left. The one that runs out of time is killed.
+# All processes are in a namespace of their own, so that none is left.
+TRY_MOUNT_WORK=$work timeout -k 5 7200 $apart python3 tools/try_mount.py "$@" &
+tries=$!
+trap 'kill "$tries" 2> /dev/null; wait "$tries"; exit 1' HUP INT TERM
 status=0
-TRY_MOUNT_WORK=$work timeout -s KILL 7200 $apart python3 tools/try_mount.py "$@" || status=$?
-[ "$status" -ne 137 ] || echo 'try_mount: killed after 7200 seconds'
+wait "$tries" || status=$?
+[ "$status" -ne 124 ] || echo 'try_mount: ended after 7200 seconds'
 exit "$status"

@@ -113,7 +113,7 @@ def try_term_with_a_process_that_stands_in_the_folder():
 
 
 def unread_errors():
-    """Standard errors that take no line: that of a full pipe, and that of a stopped terminal."""
+    """Standard errors that take no line: that of a full pipe, that of a stopped terminal, and that of one with little room."""
     reading, pipe = os.pipe()
     os.set_blocking(pipe, False)
     while outcome(os.write, pipe, bytes(4096)) == 4096:
@@ -122,8 +122,14 @@ def unread_errors():
     keys, terminal = os.openpty()
     os.write(keys, b"\x13")
     until(lambda: not select.select([], [terminal], [], 0)[1])
-    yield from (pipe, terminal)
-    for it in reading, pipe, keys, terminal:
+    unread, full = os.openpty()
+    os.set_blocking(full, False)
+    while outcome(os.write, full, b" ") == 1:
+        pass
+    os.set_blocking(full, True)
+    os.read(unread, 8)
+    yield from (pipe, terminal, full)
+    for it in reading, pipe, keys, terminal, unread, full:
         os.close(it)
 
 

@@ -73,7 +73,8 @@ def try_what_is_installed():
             assert os.path.isfile(f"{about}/{os.path.dirname(page)}/{link}"), f"{page}: {link} isn't installed"
     with gzip.open(f"{about}/changelog.gz", "rt", encoding="utf-8") as file:
         first, *lines, _ = file.read().splitlines()
-    same((first, [it for it in lines if not re.fullmatch(r"|  [*[] .{,75}|    \S.{,74}", it)]), (f"lockd ({VERSION}) unstable; urgency=medium", []))
+    same(first, f"lockd ({VERSION}) unstable; urgency=medium")
+    same([it for it in lines if not re.fullmatch(r"|  [*[] .{,75}|    \S.{,74}", it)], [])
 
 
 def try_each_man_page_names_the_options():
