@@ -40,10 +40,10 @@ fi
 work=$(mktemp -d "${TMPDIR:-/tmp}/try_mount.XXXXXX")
 trap 'rm -rf "$work"' EXIT
 # All processes are in a namespace of their own, so that none is left.
-TRY_MOUNT_WORK=$work timeout -k 5 7200 $apart python3 tools/try_mount.py "$@" &
+TRY_MOUNT_WORK=$work timeout -s KILL -k 1 7200 $apart python3 tools/try_mount.py "$@" &
 tries=$!
-trap 'kill "$tries" 2> /dev/null; wait "$tries"; exit 1' HUP INT TERM
+trap 'kill "$tries" 2> /dev/null; wait "$tries" || exit 1' HUP INT TERM
 status=0
 wait "$tries" || status=$?
-[ "$status" -ne 124 ] || echo 'try_mount: ended after 7200 seconds'
+[ "$status" -ne 137 ] || echo 'try_mount: killed after 7200 seconds'
 exit "$status"
