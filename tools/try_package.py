@@ -331,7 +331,7 @@ def try_a_list_without_checksums():
     for words in ("/usr/local",), ("--uninstall", "/usr/local"):
         told = install(*words, status=2)
         same((told.startswith(f"install: {ROOT}{LIST} has no checksums"), told.count("\n"), files_of("/usr/local")), (True, 1, [LIST, "/usr/local/share/lockd/other"]))
-        same(told.endswith(f"Remove the files that it lists, below {ROOT}, and then it\n"), True)
+        same((f"Remove the files that it lists, below {ROOT}, then those of its folders" in told, told.endswith("and then it\n")), (True, True))
     shutil.rmtree(f"{ROOT}/usr/local/share")
     is_as_before()
 
