@@ -1,1 +1,2 @@
 mod OneRowLemmas
+mod SortedLemmas

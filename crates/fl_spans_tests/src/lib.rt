@@ -1,4 +1,4 @@
-//! Tests of `fl_spans`: rows, and spans in them.
+//! Tests of `fl_arena` and `fl_spans`: chains of items, rows, and spans in them.
 #![tactic(auto)]
 
 #[cfg(test)]

@@ -1,7 +1,10 @@
-//! Tests of rows and of spans, by what is public of them.
+//! Tests of the arena, of rows and of spans, by what is public of them.
 
+mod arena;
+mod lists;
 mod row;
 mod rows;
+mod shift;
 mod spans;
 
 use std::fmt::Debug;

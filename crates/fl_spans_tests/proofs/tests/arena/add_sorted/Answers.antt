@@ -1,8 +1,8 @@
 use Rattle.std.proofs.Common.{rules, nat_le}
 use Rattle.std.specs.List.{position_or_len}
 use Rattle.fl_arena.specs.Chains.{items}
-use Rattle.fl_arena_tests.proofs.SortedLemmas.{sorted_at, sorted_done}
-use Rattle.fl_arena_tests.proofs.tests.arena.add_sorted.Goals as goal
+use Rattle.fl_spans_tests.proofs.SortedLemmas.{sorted_at, sorted_done}
+use Rattle.fl_spans_tests.proofs.tests.arena.add_sorted.Goals as goal
 
 pub returns-clause-ok : goal.returns-clause-ok
 returns-clause-ok c =

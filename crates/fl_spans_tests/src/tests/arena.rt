@@ -2,7 +2,7 @@
 ghost use Rattle.std.specs.Prelude.{◌≡◌, ◌≢◌, ◌↔◌, ◌<◌, ℕ, length, IsErr, OnOk, OnErr};
 ghost use Rattle.fl_arena.specs.Chains.{entries, items, free_count, HasSizeOf};
 ghost use Rattle.fl_arena.specs.Cursors.{cursor_at, IsInPlace};
-ghost use Rattle.fl_arena_tests.specs.Sorted.{insert_sorted};
+ghost use Rattle.fl_spans_tests.specs.Sorted.{insert_sorted};
 
 use super::same;
 use fl_arena::{Arena, Cursor, Full, Place};

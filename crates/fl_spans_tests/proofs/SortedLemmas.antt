@@ -2,7 +2,7 @@
 use Rattle.std.proofs.Common.{◌≡◌, ℕ, suc, ◌+◌, Bool, true, false, cond, not, nat_le, List, [], ◌∷◌, Result, Ok, Err}
 use Rattle.std.proofs.Common.{OnOk, refl, sym, ◌∙◌, ap, arith}
 use Rattle.std.specs.List.{insert, position_or_len}
-use Rattle.fl_arena_tests.specs.Sorted.{insert_sorted}
+use Rattle.fl_spans_tests.specs.Sorted.{insert_sorted}
 
 one_more : (n : ℕ) → suc n ≡ 1 + n
 one_more n = omega arith

@@ -1,5 +1,0 @@
-//! Tests of `fl_arena`.
-#![tactic(auto)]
-
-#[cfg(test)]
-mod tests;
