@@ -1,5 +1,4 @@
-//! Tests of `fl_core`, by what anyone can see of it: orders through a core, and their replies. Random orders stand beside
-//! plain programs of the same rules.
+//! Tests of `fl_core`, by what anyone can see of it: orders through a core, and their replies.
 #![tactic(auto)]
 
 #[cfg(test)]

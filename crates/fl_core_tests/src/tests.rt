@@ -17,7 +17,6 @@ mod locks;
 mod many;
 mod orders;
 mod parking;
-mod random;
 mod releases;
 mod room;
 mod waiting;

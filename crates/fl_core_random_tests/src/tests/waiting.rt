@@ -1,8 +1,8 @@
 //! Random orders on locks, many of which wait, beside a plain program of locks.
 
 use super::Server;
+use super::orders::{READ, UNLOCK, WRITE, name, order};
 use super::plain_locks::{Counts, LAST, OWNERS, PlainLocks, request_of};
-use crate::tests::orders::{READ, UNLOCK, WRITE, name, order};
 use fl_core::{Core, Rules};
 use fl_order::{Errno, LockAsk, Op, Order};
 use fl_ranges::{Class, Key, Kind, Range};

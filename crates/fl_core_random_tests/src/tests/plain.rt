@@ -1,6 +1,6 @@
 //! A plain directory, which keeps all files that ever were and finds out anew which of them live. It has no limits.
 
-use crate::tests::Reply;
+use super::Reply;
 use fl_order::{Answer, Attr, Errno, Name, Op, Order};
 use std::alloc::Global;
 use std::process::Abort;

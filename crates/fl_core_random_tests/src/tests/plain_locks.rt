@@ -1,8 +1,8 @@
 //! A plain program of locks and of waiting: marks stand in a grid of bytes, and parked requests in a list.
 
+use super::Reply;
+use super::orders::{READ, UNLOCK, WRITE};
 use super::plain::Plain;
-use crate::tests::Reply;
-use crate::tests::orders::{READ, UNLOCK, WRITE};
 use fl_core::{Request, Rules};
 use fl_order::{Answer, Errno, LockAsk, Op, Order, Told};
 use std::alloc::Global;

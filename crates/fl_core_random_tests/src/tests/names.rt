@@ -1,8 +1,8 @@
 //! Random orders on names, nodes and open files, beside a plain directory.
 
 use super::Server;
+use super::orders::{name, order};
 use super::plain::Plain;
-use crate::tests::orders::{name, order};
 use fl_core::Rules;
 use fl_order::{Name, Op, Order, Told};
 use fl_testing::Numbers;

@@ -6,17 +6,20 @@ ghost use Rattle.fl_core.specs.Step.{next, replies};
 ghost use Rattle.fl_core.specs.Tolds.{HasRoom};
 
 mod names;
+mod orders;
 mod plain;
 mod plain_circles;
 mod plain_locks;
 mod plain_room;
 mod waiting;
 
-use super::{Reply, assert_tolds};
 use fl_core::{Core, Rules, Tolds};
-use fl_order::{Order, Told};
+use fl_order::{Answer, Errno, Order, Told};
 use std::alloc::Global;
 use std::process::Abort;
+
+// What an order is answered.
+type Reply = Result<Answer, Errno>;
 
 // A core, with room for the replies to an order, and a second one that follows it by its replies.
 #[derive(Drop)]
@@ -90,5 +93,9 @@ fn assert_answer(
     found: Option<Option<Reply>>,
     wanted: Option<Option<Reply>>,
 ) {
+    assert_eq!(rt; found, wanted, "order {unique}");
+}
+
+fn assert_tolds(rt: &impl Abort, unique: u64, found: &[Told], wanted: &[Told]) {
     assert_eq!(rt; found, wanted, "order {unique}");
 }
