@@ -22,7 +22,7 @@ use std::marker::Model;
 const MOST_BYTES: usize = 255;
 
 /// Lines in the order of time. Contracts see their list, and for how many more memory is there.
-#[derive(Debug, Drop)]
+#[derive(Debug)]
 pub struct Lines {
     records: ChunkedVec<ShortLine>,
     asks: ChunkedVec<ShortOrder>,
@@ -45,6 +45,19 @@ impl Model for Lines {
 
     ghost invariant = { λ l. AreKept l.records.items l.asks.items l.answers.items l.names.items
         × HaveRoom l.room l.records.room l.asks.room l.answers.room l.names.room };
+}
+
+impl Drop for Lines {
+    // One call: with a derived one, whoever owns lines would prove a step for each vector in them.
+    fn drop(self) {
+        let Lines {
+            records: _records,
+            asks: _asks,
+            answers: _answers,
+            names: _names,
+            room: _room,
+        } = self;
+    }
 }
 
 impl Lines {
