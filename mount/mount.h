@@ -51,10 +51,10 @@ void read_options(int argc, char **argv, struct options *options);
 // name too if there is one.
 void say(const char *what, ...) __attribute__((format(printf, 1, 2)));
 void fail(const char *what, ...) __attribute__((format(printf, 1, 2), noreturn));
-// From here on no line waits for more than a second.
+// From here on no line waits for more than a second, unless standard error is a pipe or a terminal that can't be opened once more.
 void say_without_waiting(void);
-// A line with its newline on standard error. If nobody reads for a second, as at a stopped terminal, what has no room is lost, and so
-// are the next lines until somebody does.
+// A line with its newline on standard error. What has no room within a second, as at a stopped terminal, is lost, and so are the next
+// lines while they have none at once.
 void say_line(const char *line, size_t size);
 // What the service manager reads, where one started the program.
 void notify(const char *what, ...) __attribute__((format(printf, 1, 2)));

@@ -29,19 +29,35 @@ void say_without_waiting(void)
         errors = opened;
 }
 
-// One write where there is room, so that lines of two threads don't mix.
+// A socket can be told with each write that it isn't to wait.
+static ssize_t write_some(const char *line, size_t size)
+{
+    ssize_t sent = send(errors, line, size, MSG_DONTWAIT);
+    return sent < 0 && errno == ENOTSOCK ? write(errors, line, size) : sent;
+}
+
+static int milliseconds_until(double end)
+{
+    double left = (end - seconds()) * 1000;
+    return left > 0 ? (int)left : 0;
+}
+
+// One write where there is room, so that lines of two threads don't mix. It leaves errno as it was.
 void say_line(const char *line, size_t size)
 {
     static atomic_int patience = PATIENCE;
+    int error = errno;
+    double end = seconds() + patience / 1000.0;
     struct pollfd to = {.fd = errors, .events = POLLOUT};
-    for (int tries = 0; size && tries < TRIES && poll(&to, 1, patience) > 0; tries++) {
-        ssize_t written = write(errors, line, size);
+    for (int tries = 0; size && tries < TRIES && poll(&to, 1, milliseconds_until(end)) > 0; tries++) {
+        ssize_t written = write_some(line, size);
         if (written < 0 && errno != EAGAIN && errno != EINTR)
             break;
         line += written > 0 ? written : 0;
         size -= written > 0 ? (size_t)written : 0;
     }
     patience = size ? 0 : PATIENCE;
+    errno = error;
 }
 
 static void say_with(int error, const char *what, va_list words)

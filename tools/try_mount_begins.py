@@ -270,7 +270,7 @@ def try_a_kernel_that_is_too_old():
 
 
 def try_a_server_that_ends_before_it_is_ready():
-    refused_by("ends", "the server ended with status 2 before it listened", "nothing is mounted")
+    refused_by("ends", "the server ended with status 2 before it listened", "can't serve; nothing is mounted\n")
     refused_by("ends_at_init", "the server ended before INIT was agreed", "nothing is mounted")
     refused_by("ends_at_lookup", "no name could be looked up", "nothing is mounted")
     refused_by("bad_length", "the server sent a reply of a length that none has", "nothing is mounted")

@@ -1,5 +1,5 @@
 """How a mount ends: by umount, signals, a server or a carrier that is killed, an abort."""
-import fcntl, os, resource, select, signal, subprocess, tempfile, threading, time
+import fcntl, os, resource, select, signal, socket, subprocess, tempfile, threading, time
 from try_mount_kit import *
 
 
@@ -113,7 +113,7 @@ def try_term_with_a_process_that_stands_in_the_folder():
 
 
 def unread_errors():
-    """Standard errors that take no line: that of a full pipe, that of a stopped terminal, and that of one with little room."""
+    """Standard errors that take no line: a full pipe, a full socket, a stopped terminal, and a terminal with little room."""
     reading, pipe = os.pipe()
     os.set_blocking(pipe, False)
     while outcome(os.write, pipe, bytes(4096)) == 4096:
@@ -128,7 +128,14 @@ def unread_errors():
         pass
     os.set_blocking(full, True)
     os.read(unread, 8)
-    yield from (pipe, terminal, full)
+    ours, theirs = socket.socketpair()
+    theirs.setblocking(False)
+    while outcome(theirs.send, bytes(4096)) == 4096:
+        pass
+    theirs.setblocking(True)
+    yield from (pipe, theirs.fileno(), terminal, full)
+    ours.close()
+    theirs.close()
     for it in reading, pipe, keys, terminal, unread, full:
         os.close(it)
 
