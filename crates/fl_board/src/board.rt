@@ -30,7 +30,6 @@ use std::time::Duration;
 const PAUSE: u64 = 100;
 
 /// A board of 1 to 16 workers, whose lines go to a journal: they stay in memory, if nothing else is said.
-#[derive(Drop)]
 pub struct Board<L: BoardName, R: Wait + Drop, J: Journal = Lines> {
     shared: Mutex<Shared<L, R, J>>,
     workers: usize,
@@ -85,6 +84,16 @@ impl From<AllocError> for OpenFault {
 
     fn from(_e: AllocError) -> OpenFault {
         OpenFault::NoMemory
+    }
+}
+
+impl<L: BoardName, R: Wait + Drop, J: Journal + Drop> Drop for Board<L, R, J> {
+    // One call for an owner, and not a step for each part.
+    fn drop(self) {
+        let Board {
+            shared: _shared,
+            workers: _workers,
+        } = self;
     }
 }
 

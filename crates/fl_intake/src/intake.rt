@@ -19,7 +19,6 @@ use std::sync::Wait;
 pub const MOST_JOBS: usize = 64;
 
 /// A queue of at most 64 jobs, the oldest first, which can be closed. Contracts see which one it is.
-#[derive(Drop)]
 pub struct Intake {
     queue: OrderQueue,
     boxes: FreeBoxes,
@@ -38,6 +37,17 @@ impl Model for Intake {
     ghost view = { λ i. i.queue.table.shared.table_id };
 
     ghost invariant = { λ i. ruled_capacity i.queue ≡ 64 };
+}
+
+impl Drop for Intake {
+    // One call for an owner, and not a step for each part.
+    fn drop(self) {
+        let Intake {
+            queue: _queue,
+            boxes: _boxes,
+            waking: _waking,
+        } = self;
+    }
 }
 
 /// Ends that take are missing. All comes back.

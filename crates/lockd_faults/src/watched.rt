@@ -11,12 +11,23 @@ use std::io;
 use std::io::{ErrorKind, Read, Write};
 
 /// Reads what another reader has. If it is given memory, lines are looked at on the way, as long as that suffices.
-#[derive(Drop)]
 pub struct Watched<R> {
     input: R,
     tells: bool,
     watch: Option<Watch>,
     failed: Option<ErrorKind>,
+}
+
+impl<R: Drop> Drop for Watched<R> {
+    // One call for an owner, and not a step for each part.
+    fn drop(self) {
+        let Watched {
+            input: _input,
+            tells: _tells,
+            watch: _watch,
+            failed: _failed,
+        } = self;
+    }
 }
 
 impl<R: Read> Watched<R> {
