@@ -81,9 +81,13 @@ fn hear(rt: &impl Abort, judge: &mut Judge, line: &Line) {
     judge.hear(line);
 }
 
+fn has_heard(rt: &impl Abort, judge: &Judge, lines: usize) {
+    assert_eq!(rt; judge.heard(), lines);
+}
+
 // A judge that heard so many lines says this of them.
 fn says(rt: &impl Abort, judge: &Judge, heard: usize, verdict: Verdict, wanted: &Wanted) {
-    assert_eq!(rt; judge.heard(), heard);
+    has_heard(rt, judge, heard);
     assert_eq!(rt; judge.verdict(), verdict);
     assert_eq!(rt; judge.begins(), heard <= wanted.begins);
     assert_eq!(rt; judge.quiet(), heard <= wanted.quiet);

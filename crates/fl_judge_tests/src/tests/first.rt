@@ -1,6 +1,6 @@
 //! The first lines of a trace that is read in pieces.
 
-use super::A_LOCK_IS_WAITED_FOR;
+use super::{A_LOCK_IS_WAITED_FOR, has_heard};
 use fl_core::Rules;
 use fl_judge::{AuditFault, Judge, hear_first};
 use fl_testing::{Source, Trouble};
@@ -23,9 +23,13 @@ fn first(
 fn hears(rt: &(impl Abort + AllocGlobal), text: &str, most: Option<usize>, lines: usize) {
     for piece in [1, 7, 1000].iter() {
         let judge = first(rt, text, *piece, most).expect(rt, "lines");
-        assert_eq!(rt; judge.heard(), lines);
-        assert!(rt; judge.begins());
+        begins(rt, &judge, lines);
     }
+}
+
+fn begins(rt: &impl Abort, judge: &Judge, lines: usize) {
+    has_heard(rt, judge, lines);
+    assert!(rt; judge.begins());
 }
 
 // This line is the first bad one.

@@ -2,6 +2,7 @@
 
 use super::{A_LOCK_IS_WAITED_FOR, hear, read};
 use fl_core::{Core, Rules};
+use fl_history::History;
 use fl_judge::Judge;
 use fl_order::{Answer, Errno, LockAsk, Op, Order};
 use std::process::Abort;
@@ -50,8 +51,8 @@ fn leads_to(rt: &impl Abort, judge: &Judge, wanted: &Seen, waits: bool) {
 // After each line of a text, and before the first, this is there.
 fn follow(rt: &(impl Abort + AllocGlobal), text: &str, wanted: &[(Seen, bool)]) -> Judge {
     let history = read(rt, text);
-    let mut judge = Judge::new(rt.alloc(), Rules::standard()).expect(rt, "memory");
     assert_eq!(rt; history.len().saturating_add(1), wanted.len());
+    let mut judge = Judge::new(rt.alloc(), Rules::standard()).expect(rt, "memory");
     for (at, (core, waits)) in wanted.iter().enumerate() {
         leads_to(rt, &judge, core, *waits);
         if at < history.len() {
@@ -81,6 +82,17 @@ fn what_is_there_counts_replies_that_are_missing(rt: HostRuntime) {
     let _judge = follow(&rt, A_LOCK_IS_WAITED_FOR, &wanted);
 }
 
+// After each line of a history, and before the first, something is there as this says.
+fn is_there_when(rt: &impl Abort, judge: &mut Judge, history: &History, wanted: &[bool]) {
+    assert_eq!(rt; history.len().saturating_add(1), wanted.len());
+    for (at, some) in wanted.iter().enumerate() {
+        assert_eq!(rt; judge.present().is_some(), *some);
+        if at < history.len() {
+            hear(rt, judge, &history.line(at));
+        }
+    }
+}
+
 #[test]
 fn nothing_is_there_once_lines_differed(rt: HostRuntime) {
     let history = read(
@@ -88,11 +100,5 @@ fn nothing_is_there_once_lines_differed(rt: HostRuntime) {
         "ask 0 1 2 0 0 0 getattr\ntell 1 ok\nask 0 2 2 0 0 0 getattr\n",
     );
     let mut judge = Judge::new(rt.alloc(), Rules::standard()).expect(&rt, "memory");
-    let wanted = [true, true, false, false];
-    for (at, some) in wanted.iter().enumerate() {
-        assert_eq!(&rt; judge.present().is_some(), *some);
-        if at < history.len() {
-            hear(&rt, &mut judge, &history.line(at));
-        }
-    }
+    is_there_when(&rt, &mut judge, &history, &[true, true, false, false]);
 }

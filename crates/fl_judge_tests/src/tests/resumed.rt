@@ -1,10 +1,10 @@
 //! What a server goes on from after a trace that is cut off anywhere.
 
 use super::first::THE_SECOND_IS_BAD;
-use super::read;
+use super::{has_heard, read};
 use fl_core::{Core, Rules};
 use fl_history::{History, Line};
-use fl_judge::{AuditFault, Heard, Judge, hear_cut};
+use fl_judge::{AuditFault, Heard, Judge, Resumed, hear_cut};
 use fl_order::Told;
 use fl_testing::{Source, Trouble};
 use std::process::Abort;
@@ -63,11 +63,20 @@ fn is_after(rt: &impl Abort, lines: usize, missing: usize, present: &Core) {
 
 // A judge that heard so many lines of the history gives what is missing of it.
 fn goes_on(rt: &impl Abort, history: &History, judge: Judge, lines: usize) {
-    assert_eq!(rt; judge.heard(), lines);
+    has_heard(rt, &judge, lines);
     let resumed = judge.into_resumed().expect(rt, "a beginning");
+    is_next(rt, history, &resumed, lines);
+}
+
+fn is_next(rt: &impl Abort, history: &History, resumed: &Resumed, lines: usize) {
     let missing = resumed.missing.as_slice();
     is_after(rt, lines, missing.len(), &resumed.present);
     are_next(rt, history, missing, lines);
+}
+
+// The lines that were heard have so many bytes.
+fn have_bytes(rt: &impl Abort, heard: &Heard, bytes: u64) {
+    assert_eq!(rt; heard.bytes, bytes);
 }
 
 // A text has so many whole lines of the history, and these have so many bytes.
@@ -80,7 +89,7 @@ fn is_cut(
 ) {
     for piece in [1, 7, 1000].iter() {
         let heard = cut(rt, text, *piece).expect(rt, "lines");
-        assert_eq!(rt; heard.bytes, bytes);
+        have_bytes(rt, &heard, bytes);
         goes_on(rt, history, heard.judge, lines);
     }
 }
@@ -106,8 +115,12 @@ fn a_trace_is_cut_off_at_each_byte(rt: HostRuntime) {
 fn no_server_goes_on_from_lines_that_differ(rt: HostRuntime) {
     let text = "ask 0 1 2 0 0 0 getattr\ntell 1 ok\nask 0 2 2";
     let heard = cut(&rt, text.as_bytes(), 7).expect(&rt, "lines");
-    assert_eq!(&rt; heard.bytes, 34);
-    assert!(&rt; heard.judge.into_resumed().is_none());
+    have_bytes(&rt, &heard, 34);
+    is_none(&rt, &heard.judge.into_resumed());
+}
+
+fn is_none(rt: &impl Abort, resumed: &Option<Resumed>) {
+    assert!(rt; resumed.is_none());
 }
 
 #[test]
