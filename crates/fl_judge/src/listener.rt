@@ -93,9 +93,7 @@ impl Listener {
                 self.hear(came);
                 Ok(true)
             }
-            Err(error) if error.kind() == ErrorKind::Interrupted => Ok(true),
-            Err(error) if error.kind() == ErrorKind::OutOfMemory => Err(AuditFault::NoMemory),
-            Err(_) => Err(AuditFault::Read),
+            Err(error) => after_failure(error.kind()),
         }
     }
 
@@ -199,6 +197,18 @@ fn read_piece<R: Read>(input: &mut R, room: &mut [u8], kept: usize) -> io::Resul
     ensures failed { OnErr result (Keeps (R.remaining input.old) (R.remaining input.new)) }
 {
     input.read(&mut room[kept..])
+}
+
+// Whether more may come after a read that failed.
+fn after_failure(why: ErrorKind) -> Result<bool, AuditFault>
+    ensures more { IfOk result (λ more. more ≡ true) }
+    ensures fault { IfErr result (λ fault. (n : ℕ) → fault ≢ AuditFault.BadLine n) }
+{
+    match why {
+        ErrorKind::Interrupted => Ok(true),
+        ErrorKind::OutOfMemory => Err(AuditFault::NoMemory),
+        _ => Err(AuditFault::Read),
+    }
 }
 
 // Moves so many bytes from a place to the front.

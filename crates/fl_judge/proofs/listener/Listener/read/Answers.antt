@@ -19,3 +19,21 @@ returns-in-Ok-clause-reads g c = λ left so.
     (subst (λ (r : List ℕ). Consumes old new (take c.in-Ok.came (drop before.kept r))) (sym same) c.in-Ok.ensures.read) c.hear.ensures.hears
     (read_none left old old before mid (Keeps-refl old)
     (other_room before mid refl refl refl refl refl (ap (take before.kept) same ∙ c.read_piece.ensures.kept ∙ ap (take before.kept) c.deref_mut.ensures.value)) so)
+
+pub returns-in-Ok-clause-room : goal.returns-in-Ok-clause-room
+returns-in-Ok-clause-room g c = c.hear.ensures.room
+
+pub returns-in-Ok-clause-few : goal.returns-in-Ok-clause-few
+returns-in-Ok-clause-few g c = c.hear.ensures.few
+
+pub returns-in-Ok-clause-bytes : goal.returns-in-Ok-clause-bytes
+returns-in-Ok-clause-bytes g c = c.hear.ensures.bytes
+
+pub returns-in-Ok-clause-rules : goal.returns-in-Ok-clause-rules
+returns-in-Ok-clause-rules g c = c.hear.ensures.rules
+
+pub returns-in-Ok-clause-keeps : goal.returns-in-Ok-clause-keeps
+returns-in-Ok-clause-keeps g c = c.hear.ensures.keeps
+
+pub returns-in-Ok-clause-most : goal.returns-in-Ok-clause-most
+returns-in-Ok-clause-most g c = c.hear.ensures.most
