@@ -19,7 +19,7 @@ use batches::BATCHES;
 use fair::STANDARD;
 use fl_core::Rules;
 use fl_history::History;
-use fl_session::run_one;
+use fl_session::{Done, run_one};
 use fl_testing::{bytes_after, fair_sessions, lines_after};
 use fl_trace::print_trace;
 use std::alloc::Global;
@@ -45,14 +45,22 @@ fn spelled(rt: &impl Abort, alloc: Global, before: &str, case: &str, mark: &str)
 // The messages of a session under these rules get its replies, and it ends with the stream. Gives its history.
 fn answers(rt: &impl Abort, alloc: Global, rules: Rules, before: &str, case: &str) -> History {
     let stream = spelled(rt, alloc, before, case, "> ");
-    let replies = spelled(rt, alloc, before, case, "< ");
     let mut input = stream.as_slice();
     let mut output = Vec::new(alloc);
     let done = run_one(alloc, &mut input, &mut output, rules);
+    has_ended(rt, &done, case);
+    are_replies(rt, &output, &spelled(rt, alloc, before, case, "< "), case);
+    done.history
+}
+
+// It ended with the stream, and no order was refused.
+fn has_ended(rt: &impl Abort, done: &Done, case: &str) {
     assert_eq!(rt; done.fault, None, "{case}");
     assert!(rt; !done.refused, "{case}");
-    assert_eq!(rt; output, replies, "{case}");
-    done.history
+}
+
+fn are_replies(rt: &impl Abort, found: &[u8], wanted: &[u8], case: &str) {
+    assert_eq!(rt; found, wanted, "{case}");
 }
 
 // Runs each session in a stored text behind what comes before, and says how many there are. It begins with a line of
