@@ -314,14 +314,21 @@ static bool unmount_by(int signal)
     }
 }
 
+// Nobody has a file open. The server may take its time.
+static void end_mount(void)
+{
+    place_unmount(&it.place, true);
+    record_clear();
+    carrier_stop();
+    record_remove();
+}
+
 static int end_by(int signal)
 {
     struct holders holders;
     if (unmount_by(signal)) {
         say("the folder was unmounted");
-        place_unmount(&it.place, true);
-        carrier_stop();
-        record_remove();
+        end_mount();
         return STATUS_UNMOUNTED;
     }
     unsigned count = open_files(&holders);
@@ -388,9 +395,7 @@ static int end_unmounted(void)
         return STATUS_LOST;
     }
     say(place_is_mounted(&it.place) ? "the connection was aborted; no file was open" : "the folder was unmounted");
-    place_unmount(&it.place, true);
-    carrier_stop();
-    record_remove();
+    end_mount();
     return STATUS_UNMOUNTED;
 }
 
@@ -402,9 +407,7 @@ static int end_unexpected(enum end end, int fault)
         leave_dead(&holders);
         return status;
     }
-    place_unmount(&it.place, true);
-    carrier_stop();
-    record_remove();
+    end_mount();
     return status;
 }
 

@@ -152,6 +152,8 @@ enum record record_take(const char *path);
 dev_t record_read(void);
 bool record_of_living(dev_t device);
 void record_write(const char *path, dev_t device);
+// Nothing is mounted any more, and the kernel may give its number to another mount.
+void record_clear(void);
 void record_remove(void);
 // Lets it go, as it is.
 void record_release(void);

@@ -121,6 +121,12 @@ bool record_of_living(dev_t device)
     return found;
 }
 
+void record_clear(void)
+{
+    if (record >= 0 && ftruncate(record, 0))
+        say("cannot write %s: a later mount may take its number for that of this one", record_path);
+}
+
 void record_release(void)
 {
     if (record >= 0)

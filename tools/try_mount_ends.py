@@ -294,6 +294,23 @@ def try_the_carrier_is_killed():
     assert time.monotonic() - begun > 0.4
 
 
+def try_a_number_is_given_again_while_its_last_mount_ends():
+    """A mount that was killed isn't taken for over, since another one that still ends had the kernel's number of it before."""
+    ending = Mount()
+    server = ending.server()
+    os.kill(server, signal.SIGSTOP)
+    unmount(ending.folder)
+    mount = Mount()
+    (one,) = children(f"{mount.folder}/held", 1)
+    mount.end(mount.running.kill)
+    subprocess.run(["umount", "-l", mount.folder], timeout=PATIENCE, check=True)
+    contains(refusal(folder=mount.folder), "an earlier mount", str(one.pid))
+    os.kill(server, signal.SIGCONT)
+    same(ending.running.wait(PATIENCE), 0)
+    one.kill()
+    mounts_again(mount.folder)
+
+
 def try_the_carrier_is_killed_without_open_files():
     mount = Mount()
     shell(mount, "flock job echo in", "in")
