@@ -21,7 +21,6 @@ use std::marker::Model;
 ///
 /// Contracts see the entries of each chain in order, an item with its slot each, and the number of
 /// slots.
-#[derive(Drop)]
 pub struct Arena<T: Copy> {
     nodes: Vec<Node<T>>,
     ends: Vec<Ends>,
@@ -40,6 +39,18 @@ impl<T: Copy> Model for Arena<T> {
     ghost view = { λ a. spelled a.nodes.items a.ends.items };
 
     ghost invariant = { λ a. Spells a.nodes.items a.ends.items a.spare a.free (spelled a.nodes.items a.ends.items) };
+}
+
+impl<T: Copy> Drop for Arena<T> {
+    // One call for an owner, and not a step for each vector.
+    fn drop(self) {
+        let Arena {
+            nodes: _nodes,
+            ends: _ends,
+            spare: _spare,
+            free: _free,
+        } = self;
+    }
 }
 
 impl<T: Copy> Arena<T> {

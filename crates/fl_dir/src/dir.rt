@@ -46,7 +46,6 @@ pub const MOST_OPEN: u32 = 65_536;
 ///
 /// No call but `new` takes memory. The tests of each call are made in the order of its definition, and a refusal
 /// changes nothing.
-#[derive(Drop)]
 pub struct Dir {
     pub(crate) nodes: Numbered<Slot>,
     pub(crate) names: Names,
@@ -83,6 +82,17 @@ impl Model for Dir {
     } };
 
     ghost invariant = { λ d. IsKept d.nodes d.names.entries d.names.mask d.files };
+}
+
+impl Drop for Dir {
+    // One call for an owner, and not a step for each part.
+    fn drop(self) {
+        let Dir {
+            nodes: _nodes,
+            names: _names,
+            files: _files,
+        } = self;
+    }
 }
 
 impl Dir {

@@ -21,7 +21,6 @@ const _: () = prove!(size_of::<Span<Mark>>() == 24);
 ///
 /// Contracts see how many runs there is room for, on how many chains they stand, and the mark of each byte. No call
 /// but `new` takes memory.
-#[derive(Drop)]
 pub struct Table {
     pub(crate) rows: Rows<Key, Span<Mark>>,
     limit: u32,
@@ -44,6 +43,16 @@ impl Model for Table {
     ghost view = { λ t. record { limit = t.limit; chains = chain_count t.rows; marking = row_marks t.rows } };
 
     ghost invariant = { λ t. IsLockTable t.rows t.limit (chain_count t.rows) };
+}
+
+impl Drop for Table {
+    // One call for an owner, and not a step for each part.
+    fn drop(self) {
+        let Table {
+            rows: _rows,
+            limit: _limit,
+        } = self;
+    }
 }
 
 impl Table {

@@ -40,7 +40,6 @@ pub struct Pieces<R> {
 ///
 /// Contracts see the rows of each chain in order, and how many runs there is room for. A cursor names a slot,
 /// so what they see has slots too. Only `head_place` and `slot_place` speak of them.
-#[derive(Drop)]
 pub struct Rows<K: Copy, R: Copy> {
     // One chain of heads for each chain of rows, and a last one for the heads that no row has.
     pub(crate) heads: Arena<Head<K>>,
@@ -59,6 +58,17 @@ impl<K: Copy, R: Copy> Model for Rows<K, R> {
     ghost view = { λ r. record { heads = r.heads; runs = r.runs } };
 
     ghost invariant = { λ r. AreRows r.heads r.runs r.unused };
+}
+
+impl<K: Copy, R: Copy> Drop for Rows<K, R> {
+    // One call for an owner, and not a step for each part.
+    fn drop(self) {
+        let Rows {
+            heads: _heads,
+            runs: _runs,
+            unused: _unused,
+        } = self;
+    }
 }
 
 impl<K: Copy, R: Copy> Rows<K, R> {
