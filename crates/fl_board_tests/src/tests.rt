@@ -4,16 +4,14 @@ ghost use Rattle.std.specs.Prelude.{◌≡◌, ◌<◌, ◌≤◌, true};
 ghost use Rattle.fl_core.specs.Tolds.{HasRoom};
 ghost use Rattle.fl_order.specs.Order.{only_reads};
 
-mod fair;
 mod looks;
-mod missing;
 mod rows;
 mod threaded;
 
 use fl_board::{Ask, Board, BoardName, FreshLog, Seat};
 use fl_core::{Rules, Tolds};
 use fl_desk::{Verdict, check};
-use fl_history::History;
+use fl_history::{History, Lines};
 use fl_order::{Answer, Errno, LockAsk, Name, Op, Order};
 use std::alloc::Global;
 use std::process::Abort;
@@ -89,7 +87,7 @@ fn see<L: BoardName, R: Wait + Abort>(
     board.look(seat, order).ok().expect(rt, "a view")
 }
 
-// A board, and its seats.
+// A board over a journal, and its seats.
 fn opened<L: BoardName, R: Wait + Abort>(
     rt: &R,
     alloc: Global,
@@ -104,12 +102,13 @@ fn opened<L: BoardName, R: Wait + Abort>(
     requires parts { (workers ≡ L.parts) × (L.workers ≡ L.parts) }
     requires workers { (0 < workers) × (workers ≤ 16) }
 {
-    Board::<L, &R>::new(alloc, rt, blank, log, workers, rules)
+    let lines = Lines::new(alloc);
+    Board::<L, &R>::over(alloc, rt, lines, blank, log, workers, rules)
         .ok()
         .expect(rt, "a board")
 }
 
-// The history of a board all of whose seats are handed back.
+// The history that a board's journal has, if all seats are handed back.
 fn closed<L: BoardName, R: Wait + Abort>(
     rt: &R,
     board: Board<L, &R>,
@@ -117,8 +116,8 @@ fn closed<L: BoardName, R: Wait + Abort>(
 ) -> History
     requires { L.workers ≡ L.parts }
 {
-    match board.close(seats) {
-        Ok(history) => history,
+    match board.into_kept(seats) {
+        Ok(lines) => History::of(lines),
         Err(_) => panic!(rt; "a seat is missing"),
     }
 }
@@ -135,7 +134,7 @@ fn is_judged(rt: &impl Abort, alloc: Global, history: &History, rules: Rules, wa
     assert!(rt; verdict == wanted);
 }
 
-// This is the answer that is wanted.
-fn is_answer(rt: &impl Abort, found: Result<Answer, Errno>, wanted: Result<Answer, Errno>) {
-    assert!(rt; found == wanted);
+// A history has so many lines.
+fn has_lines(rt: &impl Abort, history: &History, lines: usize) {
+    assert_eq!(rt; history.len(), lines);
 }

@@ -4,7 +4,6 @@ ghost use Rattle.std.specs.Prelude.{◌≤◌};
 
 mod boxes;
 mod bursts;
-mod left;
 mod many;
 mod pool;
 
@@ -84,7 +83,6 @@ fn are_uniques(rt: &impl Abort, orders: &[Order], wanted: &[u64]) {
     are_whole(rt, orders);
     assert_eq!(rt; orders.len(), wanted.len());
     for at in 0..wanted.len() {
-        let found = orders.get(at).map(|order| order.unique);
-        assert_eq!(rt; found, wanted.get(at).copied());
+        assert!(rt; at < orders.len() && orders[at].unique == wanted[at]);
     }
 }

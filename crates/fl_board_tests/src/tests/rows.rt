@@ -3,48 +3,17 @@
 ghost use Rattle.std.specs.Prelude.{◌≡◌, ◌<◌, ◌≤◌, ◌+◌};
 ghost use Rattle.fl_core.specs.Tolds.{HasRoom};
 
-use super::fair::are_same;
-use super::{closed, create, new_tolds, opened, order, upto};
+use super::{closed, has_lines, new_tolds, opened, order};
 use fl_board::{Ask, Board, BoardName, FreshLog, Seat};
 use fl_core::{Rules, Tolds};
 use fl_desk::{NothingOutgoing, ToldLists};
 use fl_history::History;
-use fl_order::{LockAsk, Op, Order};
-use fl_trace::read_trace;
+use fl_order::{Op, Order};
 use std::alloc::Global;
 use std::marker::Brand;
 use std::process::Abort;
 use std::sync::Wait;
 use std::sync::ledger::Blank;
-
-// The third waits, the fourth is rejected, and the fifth frees the third.
-const AN_UNLOCK_IN_A_ROW_FREES_AN_ORDER_OF_THE_ROW: &str = "\
-ask 0 1 1 0 0 0 create 0 420 61
-tell 1 made 2 33188 1 0 0 1
-ask 0 2 2 0 0 0 setlk 1 7 0 0 1 11 0
-tell 2 ok
-ask 0 3 2 0 0 0 setlkw 1 8 0 0 1 11 0
-ask 0 4 2 0 0 0 setlk 1 9 0 0 1 11 0
-tell 4 err 11
-ask 0 5 2 0 0 0 setlk 1 7 0 0 2 11 0
-tell 5 ok
-tell 3 ok
-";
-
-// The orders of this trace.
-fn row(rt: &impl Abort) -> [Order; 5] {
-    let unlock = LockAsk {
-        kind: 2,
-        ..upto(7, 0)
-    };
-    [
-        create(rt),
-        order(2, 2, Op::Setlk(upto(7, 0))),
-        order(3, 2, Op::Setlkw(upto(8, 0))),
-        order(4, 2, Op::Setlk(upto(9, 0))),
-        order(5, 2, Op::Setlk(unlock)),
-    ]
-}
 
 // A row that is handed in whole. It gets a list of replies for each order that was taken.
 fn hand_in<L: BoardName, R: Wait + Abort>(
@@ -117,16 +86,8 @@ fn handed<R: Wait + Abort>(rt: &R, alloc: Global, row: &[Order], wanted: &[usize
 }
 
 #[test]
-fn a_row_is_answered_as_its_orders_one_after_another(rt: HostRuntime) {
-    let text = AN_UNLOCK_IN_A_ROW_FREES_AN_ORDER_OF_THE_ROW;
-    let trace = read_trace(rt.alloc(), text.as_bytes()).expect(&rt, "a trace");
-    let history = handed(&rt, rt.alloc(), &row(&rt), &[1, 1, 0, 1, 2]);
-    are_same(&rt, &history, &trace);
-}
-
-#[test]
 fn a_row_ends_behind_sixteen(rt: HostRuntime) {
     let row = [order(1, 1, Op::Getattr); 20];
     let history = handed(&rt, rt.alloc(), &row, &[1; 16]);
-    assert_eq!(&rt; history.len(), 32);
+    has_lines(&rt, &history, 32);
 }

@@ -2,7 +2,6 @@
 
 mod pool;
 mod rounds;
-mod threads;
 mod watched;
 
 // A number that only looks random.

@@ -5,6 +5,7 @@ ghost use Rattle.std.specs.Prelude.{◌≡◌};
 use super::many::{takes, takes_one};
 use super::{are_whole, order};
 use fl_intake::{Intake, MOST_JOBS, PutEnd, TakeEnd};
+use fl_order::Order;
 use std::alloc::Global;
 use std::process::Abort;
 use std::sync::Wait;
@@ -54,13 +55,20 @@ fn fill<R: Wait + Abort>(rt: &R, intake: &Intake, put: &mut PutEnd)
     }
 }
 
+// These are all of them, the oldest first.
+fn are_all(rt: &impl Abort, orders: &[Order]) {
+    are_whole(rt, orders);
+    assert_eq!(rt; orders.len(), MOST_JOBS);
+    for at in 0..orders.len() {
+        assert!(rt; orders[at].unique == named(at as u64));
+    }
+}
+
 #[test]
 fn all_jobs_may_have_names(rt: HostRuntime) {
     let alloc: Global = rt.alloc();
     let (intake, mut put, ends) = Intake::new(alloc, 16).expect(&rt, "memory");
     fill(&rt, &intake, &mut put);
     let left = intake.finish(&rt, put, ends).ok().expect(&rt, "all ends");
-    are_whole(&rt, left.as_slice());
-    assert_eq!(rt; left.len(), MOST_JOBS);
-    assert!(rt; left.is_sorted_by_key(|order| order.unique));
+    are_all(&rt, left.as_slice());
 }

@@ -3,7 +3,7 @@
 ghost use Rattle.std.specs.Prelude.{◌≡◌, ◌<◌, ◌≤◌};
 
 use super::order;
-use super::pool::{Putter, WorkerPool, run};
+use super::pool::{WorkerPool, run};
 use fl_intake::{Intake, PutEnd};
 use std::alloc::Global;
 use std::process::Abort;
@@ -25,41 +25,26 @@ fn burst<R: Wait + Abort>(rt: &R, pool: &WorkerPool, put: &mut PutEnd, from: u64
     pool.intake.call_one_more();
 }
 
-// Bursts of 1 to 64, of which each other one is awaited, so that workers sleep.
-struct Growing;
-
-impl Putter for Growing {
-    fn put_all<R: Wait + Abort>(&self, rt: &R, pool: &WorkerPool, put: &mut PutEnd) {
-        let mut from = 0u64;
-        let mut size = 1u64;
-        for _ in rt.forever() {
-            let size_now = size.min(ORDERS.saturating_sub(from));
-            if size_now == 0 {
-                break;
-            }
-            burst(rt, pool, put, from, size_now);
-            from = from.saturating_add(size_now);
-            if size % 2 == 0 {
-                assert!(rt; pool.await_come(from));
-            }
-            size = size % 64 + 1;
+// Puts so many orders in bursts. If orders are held, each burst is of as many and is awaited. Otherwise bursts are of 1
+// to 64, of which each other one is awaited, so that workers sleep.
+pub(super) fn put_all<R: Wait + Abort>(rt: &R, pool: &WorkerPool, put: &mut PutEnd, many: u64)
+    requires { put.old.of ≡ pool.now.intake }
+    ensures { put.new.of ≡ pool.now.intake }
+{
+    let mut from = 0u64;
+    let mut size = 1u64;
+    for _ in rt.forever() {
+        let most = if pool.held > 0 { pool.held } else { size };
+        let size_now = most.min(many.saturating_sub(from));
+        if size_now == 0 {
+            break;
         }
-    }
-}
-
-// Bursts of as many orders as there are workers, each held until all have come.
-struct Held {
-    size: u64,
-}
-
-impl Putter for Held {
-    fn put_all<R: Wait + Abort>(&self, rt: &R, pool: &WorkerPool, put: &mut PutEnd) {
-        let mut from = 0u64;
-        for _ in 0..100 {
-            burst(rt, pool, put, from, self.size);
-            from = from.saturating_add(self.size);
+        burst(rt, pool, put, from, size_now);
+        from = from.saturating_add(size_now);
+        if pool.held > 0 || size % 2 == 0 {
             assert!(rt; pool.await_come(from));
         }
+        size = size % 64 + 1;
     }
 }
 
@@ -76,12 +61,11 @@ fn are_first(rt: &impl Abort, uniques: Vec<u64>, many: u64) {
 }
 
 // All that is put is taken by so many workers, each order once, and none is left.
-fn goes_through<R: Threads + Wait + Sync + Abort, P: Putter>(
+fn goes_through<R: Threads + Wait + Sync + Abort>(
     rt: &R,
     alloc: Global,
     workers: u32,
     held: u64,
-    putter: &P,
     many: u64,
 )
     requires { (0 < workers) × (workers ≤ 16) }
@@ -93,7 +77,7 @@ fn goes_through<R: Threads + Wait + Sync + Abort, P: Putter>(
         come: AtomicU64::new(0),
         held,
     };
-    let (put, ends, uniques) = run(rt, &pool, put, ends, putter);
+    let (put, ends, uniques) = run(rt, &pool, put, ends, many);
     are_first(rt, uniques, many);
     let WorkerPool { intake, .. } = pool;
     let left = intake.finish(rt, put, ends).ok().expect(rt, "all ends");
@@ -104,17 +88,17 @@ fn goes_through<R: Threads + Wait + Sync + Abort, P: Putter>(
 fn each_order_is_taken_once(rt: HostRuntime) {
     let alloc = rt.alloc();
     for _ in 0..25 {
-        goes_through(&rt, alloc, 1, 0, &Growing, ORDERS);
-        goes_through(&rt, alloc, 2, 0, &Growing, ORDERS);
-        goes_through(&rt, alloc, 4, 0, &Growing, ORDERS);
-        goes_through(&rt, alloc, 16, 0, &Growing, ORDERS);
+        goes_through(&rt, alloc, 1, 0, ORDERS);
+        goes_through(&rt, alloc, 2, 0, ORDERS);
+        goes_through(&rt, alloc, 4, 0, ORDERS);
+        goes_through(&rt, alloc, 16, 0, ORDERS);
     }
 }
 
 #[test]
 fn held_orders_hold_up_no_other(rt: HostRuntime) {
     let alloc = rt.alloc();
-    goes_through(&rt, alloc, 2, 2, &Held { size: 2 }, 200);
-    goes_through(&rt, alloc, 4, 4, &Held { size: 4 }, 400);
-    goes_through(&rt, alloc, 16, 16, &Held { size: 16 }, 1_600);
+    goes_through(&rt, alloc, 2, 2, 200);
+    goes_through(&rt, alloc, 4, 4, 400);
+    goes_through(&rt, alloc, 16, 16, 1_600);
 }

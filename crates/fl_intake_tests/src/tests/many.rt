@@ -51,36 +51,7 @@ pub(super) fn takes_one<R: Wait + Abort>(
     are_uniques(rt, row.as_slice(), &[wanted]);
 }
 
-// An intake with five orders, its end that puts and its only end that takes.
-fn with_one_end<R: Wait + Abort>(rt: &R, alloc: Global) -> (Intake, PutEnd, TakeEnd)
-    ensures { (result.1.of ≡ result.0) × (result.2.of ≡ result.0) }
-{
-    let (intake, mut put, mut ends) = Intake::new(alloc, 1).expect(rt, "memory");
-    put_all(rt, &intake, &mut put, 5);
-    let end = ends.pop().expect(rt, "an end");
-    (intake, put, end)
-}
-
-#[test]
-fn one_end_takes_all_that_its_row_has_room_for(rt: HostRuntime) {
-    let alloc: Global = rt.alloc();
-    let (intake, _put, mut end) = with_one_end(&rt, alloc);
-    takes(&rt, alloc, &intake, &mut end, 3, &[0, 1, 2]);
-    takes(&rt, alloc, &intake, &mut end, 3, &[3, 4]);
-    takes(&rt, alloc, &intake, &mut end, 3, &[]);
-}
-
-#[test]
-fn what_a_row_has_no_room_for_stays_inside(rt: HostRuntime) {
-    let alloc: Global = rt.alloc();
-    let (intake, _put, mut end) = with_one_end(&rt, alloc);
-    takes(&rt, alloc, &intake, &mut end, 0, &[]);
-    takes(&rt, alloc, &intake, &mut end, 1, &[0]);
-    takes_one(&rt, alloc, &intake, &mut end, 1);
-    takes(&rt, alloc, &intake, &mut end, 64, &[2, 3, 4]);
-}
-
-// Of an intake with seven orders, two ends take in turn.
+// Of an intake with nine orders, two ends take in turn. What a row has no room for stays inside.
 fn take_in_turn<R: Wait + Abort>(
     rt: &R,
     alloc: Global,
@@ -90,18 +61,20 @@ fn take_in_turn<R: Wait + Abort>(
 )
     requires { (one.old.of ≡ intake.now) × (other.old.of ≡ intake.now) }
 {
-    takes(rt, alloc, intake, one, 64, &[0, 1, 2]);
-    takes(rt, alloc, intake, other, 64, &[3, 4]);
-    takes(rt, alloc, intake, one, 64, &[5]);
-    takes(rt, alloc, intake, other, 64, &[6]);
-    takes(rt, alloc, intake, one, 64, &[]);
+    takes(rt, alloc, intake, one, 3, &[0, 1, 2]);
+    takes(rt, alloc, intake, other, 64, &[3, 4, 5]);
+    takes(rt, alloc, intake, one, 0, &[]);
+    takes(rt, alloc, intake, one, 64, &[6]);
+    takes(rt, alloc, intake, other, 64, &[7]);
+    takes(rt, alloc, intake, one, 64, &[8]);
+    takes(rt, alloc, intake, other, 64, &[]);
 }
 
 #[test]
 fn two_ends_take_a_half_each_and_one_at_least(rt: HostRuntime) {
     let alloc: Global = rt.alloc();
     let (intake, mut put, mut ends) = Intake::new(alloc, 2).expect(&rt, "memory");
-    put_all(&rt, &intake, &mut put, 7);
+    put_all(&rt, &intake, &mut put, 9);
     let mut one = ends.pop().expect(&rt, "an end");
     let mut other = ends.pop().expect(&rt, "an end");
     take_in_turn(&rt, alloc, &intake, &mut one, &mut other);

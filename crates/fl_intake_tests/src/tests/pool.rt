@@ -3,6 +3,7 @@
 ghost use Rattle.std.specs.Prelude.{◌≡◌, ◌<◌, [], All, vec_capacity};
 
 use super::are_whole;
+use super::bursts::put_all;
 use fl_intake::{Intake, MOST_JOBS, PutEnd, TakeEnd};
 use fl_order::Order;
 use std::alloc::Global;
@@ -53,12 +54,7 @@ impl WorkerPool {
         }
         let burst = unique.checked_div(self.held).unwrap_or(0);
         let wanted = burst.saturating_add(1).saturating_mul(self.held);
-        for _ in 0..10_000_000 {
-            if self.come.load(Ordering::SeqCst) >= wanted {
-                return;
-            }
-            yield_now();
-        }
+        let _ = self.await_come(wanted);
     }
 
     // Waits until so many orders have come, or for so long that one must have been lost.
@@ -175,20 +171,13 @@ fn join_all<R: Threads + Abort>(
     (ends, uniques)
 }
 
-// What a putter does, in the thread that started the others.
-pub(super) trait Putter {
-    fn put_all<R: Wait + Abort>(&self, rt: &R, pool: &WorkerPool, put: &mut PutEnd)
-        requires { put.old.of ≡ pool.now.intake }
-        ensures { put.new.of ≡ pool.now.intake };
-}
-
-// Lets workers take what the putter puts: the ends, and the uniques of all orders that were taken.
-pub(super) fn run<R: Threads + Wait + Sync + Abort, P: Putter>(
+// Lets workers take so many orders, which this thread puts: the ends, and the uniques of all orders that were taken.
+pub(super) fn run<R: Threads + Wait + Sync + Abort>(
     rt: &R,
     pool: &WorkerPool,
     put: PutEnd,
     ends: Vec<TakeEnd>,
-    putter: &P,
+    many: u64,
 ) -> (PutEnd, Vec<TakeEnd>, Vec<u64>)
     requires put { put.of ≡ pool.now.intake }
     requires ends { All (λ end. end.of ≡ pool.now.intake) ends.items }
@@ -206,7 +195,7 @@ pub(super) fn run<R: Threads + Wait + Sync + Abort, P: Putter>(
         {
             let mut put = put;
             let threads = start_all(scope, rt, pool, ends);
-            putter.put_all(rt, pool, &mut put);
+            put_all(rt, pool, &mut put, many);
             pool.intake.close(&mut put);
             let (ends, uniques) = join_all(rt, pool, threads);
             (put, ends, uniques)

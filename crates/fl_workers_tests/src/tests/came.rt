@@ -1,62 +1,40 @@
 //! What came of orders, and what is wanted of them.
 
 use super::orders::replies;
-use super::tally::Seat;
-use fl_testing::Reply;
+use fl_order::Order;
+use fl_testing::{Reply, bytes_after};
 use fl_workers::Failures;
 use std::alloc::Global;
 use std::process::Abort;
 
-/// What came of orders at all seats.
+/// What came of orders at a seat.
 #[derive(Drop)]
 pub(super) struct Came {
-    /// The uniques of those that were handed in, one seat behind the other.
-    pub handed: Vec<u64>,
-    /// How many were handed in together each time.
+    /// Those that were handed in.
+    pub handed: Vec<Order>,
+    /// How many were handed in together each time, with those that weren't taken then.
     pub rows: Vec<u64>,
     /// The uniques of those that were looked for and shown.
     pub looked: Vec<u64>,
-    /// What some worker told that went wrong.
+    /// What the worker told that went wrong.
     pub failures: Failures,
-    /// How many seats there were.
-    pub seats: u64,
-}
-
-impl Came {
-    /// Of no seat.
-    pub(super) fn new(alloc: Global) -> Came {
-        Came {
-            handed: Vec::new(alloc),
-            rows: Vec::new(alloc),
-            looked: Vec::new(alloc),
-            failures: Failures::none(),
-            seats: 0,
-        }
-    }
-
-    /// Adds what came of the orders at one seat more.
-    pub(super) fn keep(&mut self, rt: &impl Abort, seat: &Seat, failures: Failures) {
-        for order in &seat.orders {
-            self.handed.push(order.unique).expect(rt, "memory");
-        }
-        add_all(rt, &mut self.rows, &seat.rows);
-        add_all(rt, &mut self.looked, &seat.looks);
-        self.failures = self.failures.or(failures);
-        self.seats = self.seats.saturating_add(1);
-    }
-}
-
-fn add_all(rt: &impl Abort, all: &mut Vec<u64>, more: &[u64]) {
-    all.extend_from_slice(more).expect(rt, "memory");
 }
 
 /// What is wanted of orders that one worker took, the oldest first.
 #[derive(Clone, Copy)]
 pub(super) struct Wanted<'a> {
+    /// The uniques of those that are handed in.
     pub handed: &'a [u64],
+    /// How many are handed in together each time.
+    pub rows: &'a [u64],
+    /// The uniques of those that are looked for and shown.
     pub looked: &'a [u64],
+    /// Some order is refused.
     pub refused: bool,
+    /// The reply to each order to which one is owed.
     pub replies: &'a [Reply],
+    /// The last bytes of these, in hex.
+    pub ends: &'a str,
 }
 
 /// That came which is wanted, with these bytes.
@@ -67,22 +45,43 @@ pub(super) fn is_wanted(
     out: &[u8],
     wanted: &Wanted<'_>,
 ) {
-    are_uniques(rt, &came.handed, wanted.handed);
-    are_uniques(rt, &came.looked, wanted.looked);
+    are_orders(rt, &came.handed, wanted.handed);
+    are_numbers(rt, &came.rows, wanted.rows);
+    are_numbers(rt, &came.looked, wanted.looked);
     have_failed(rt, came.failures, wanted.refused);
     are_replies(rt, &replies(rt, alloc, out), wanted.replies);
+    ends_with(rt, alloc, out, wanted.ends);
 }
 
-/// This says whether some order was refused, and nothing was lost.
-pub(super) fn have_failed(rt: &impl Abort, failures: Failures, refused: bool) {
+/// So many orders were handed in together each time, and nothing went wrong.
+pub(super) fn are_rows(rt: &impl Abort, came: &Came, rows: &[u64]) {
+    have_failed(rt, came.failures, false);
+    are_numbers(rt, &came.rows, rows);
+}
+
+// This says whether some order was refused, and nothing was lost.
+fn have_failed(rt: &impl Abort, failures: Failures, refused: bool) {
     let lost = false;
     assert_eq!(rt; failures, Failures { refused, lost });
 }
 
-pub(super) fn are_uniques(rt: &impl Abort, found: &[u64], wanted: &[u64]) {
+// The orders have these uniques.
+fn are_orders(rt: &impl Abort, found: &[Order], wanted: &[u64]) {
+    assert_eq!(rt; found.len(), wanted.len());
+    for at in 0..wanted.len() {
+        assert!(rt; at < found.len() && found[at].unique == wanted[at]);
+    }
+}
+
+fn are_numbers(rt: &impl Abort, found: &[u64], wanted: &[u64]) {
     assert_eq!(rt; found, wanted);
 }
 
-pub(super) fn are_replies(rt: &impl Abort, found: &[Reply], wanted: &[Reply]) {
+fn are_replies(rt: &impl Abort, found: &[Reply], wanted: &[Reply]) {
     assert_eq!(rt; found, wanted);
+}
+
+fn ends_with(rt: &impl Abort, alloc: Global, out: &[u8], wanted: &str) {
+    let wanted = bytes_after(alloc, wanted, "").expect(rt, "hex");
+    assert!(rt; out.ends_with(&wanted));
 }

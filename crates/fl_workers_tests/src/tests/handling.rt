@@ -2,7 +2,8 @@
 
 ghost use Rattle.std.specs.Prelude.{◌≡◌, Some};
 
-use super::came::Came;
+use super::came::{Came, Wanted, is_wanted};
+use super::orders::asked;
 use super::sending::{alone, begun, closed, opened};
 use super::tally::{Seat, Tally};
 use super::watch::Watch;
@@ -15,6 +16,38 @@ use std::marker::Brand;
 use std::process::Abort;
 use std::sync::ledger::Blank;
 use std::sync::{Mutex, Wait};
+
+/// Handles the orders of a trace at one seat. That comes of them which is wanted.
+pub(super) fn comes_so<R: Wait + Abort>(
+    rt: &R,
+    alloc: Global,
+    tally: Tally,
+    trace: &str,
+    wanted: &Wanted<'_>,
+) {
+    let orders = asked(rt, alloc, trace);
+    are_handled(rt, alloc, tally, &orders, wanted);
+}
+
+/// Handles all orders at one seat. That comes of them which is wanted.
+pub(super) fn are_handled<R: Wait + Abort>(
+    rt: &R,
+    alloc: Global,
+    tally: Tally,
+    orders: &[Job],
+    wanted: &Wanted<'_>,
+) {
+    let gate = Watch::new();
+    let mut out = Vec::new(alloc);
+    let came = handled(rt, alloc, tally, &gate, orders, &mut out);
+    is_wanted(rt, alloc, &came, &out, wanted);
+    have_passed(rt, &gate, orders);
+}
+
+// The gate was told of all orders, and then of the first reply.
+fn have_passed(rt: &impl Abort, gate: &Watch, orders: &[Job]) {
+    assert_eq!(rt; gate.orders_before_the_first_reply(), orders.len() as u64);
+}
 
 /// Handles all orders at one seat, and puts the replies behind what was there.
 pub(super) fn handled<R: Wait + Abort>(
@@ -69,7 +102,5 @@ fn handed_in<'w, N: WriterName, R: Wait + Abort>(
     let mut post = Post { seat, own };
     let failures = handle_all(rt, &tally, gate, sender, &mut post, &mut replies, orders);
     let Post { seat, own } = post;
-    let mut came = Came::new(alloc);
-    came.keep(rt, &seat, failures);
-    (came, own)
+    (seat.came(failures), own)
 }

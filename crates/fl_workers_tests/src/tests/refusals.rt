@@ -1,17 +1,14 @@
 //! Orders that are refused.
 
-use super::came::{Came, Wanted, is_wanted};
-use super::handling::handled;
-use super::orders::{FIRST, asked, lookups};
-use super::pool::worked;
-use super::rows::were_together;
+use super::came::Wanted;
+use super::handling::{are_handled, comes_so};
+use super::orders::{FIRST, lookups};
 use super::tally::{Refuses, Tally, WILLING};
-use super::watch::Watch;
+use fl_intake::Job;
+use fl_testing::Reply;
 use std::alloc::Global;
 use std::process::Abort;
 use std::sync::Wait;
-use std::thread::Threads;
-use std::time::Clock;
 
 // The third, sixth and ninth order are a lock, an INTERRUPT and a FORGET.
 const TRACE: &str = "\
@@ -30,6 +27,7 @@ ask 0 11 2 0 0 0 setlk 1 9 20 29 1 13 0
 // The lock is there still and the request is parked for good. ENOMEM is told to the lock and EAGAIN to the INTERRUPT.
 const REFUSED: Wanted<'static> = Wanted {
     handed: &[2, 3, 5, 6, 8, 9, 11],
+    rows: &[10, 7, 4, 1],
     looked: &[],
     refused: true,
     replies: &[
@@ -42,11 +40,13 @@ const REFUSED: Wanted<'static> = Wanted {
         (9, 0),
         (11, 0),
     ],
+    ends: "",
 };
 
 // The lock is given back, so nothing waits. The INTERRUPT finds no request.
 const TAKEN: Wanted<'static> = Wanted {
     handed: &[2, 3, 4, 5, 6, 7, 8, 9, 10, 11],
+    rows: &[10],
     looked: &[],
     refused: false,
     replies: &[
@@ -60,6 +60,7 @@ const TAKEN: Wanted<'static> = Wanted {
         (9, 0),
         (11, 0),
     ],
+    ends: "",
 };
 
 const REFUSING: Tally = Tally {
@@ -67,84 +68,62 @@ const REFUSING: Tally = Tally {
     shows: true,
 };
 
-fn hand_in_alone<R: Wait + Abort>(rt: &R, alloc: Global, tally: Tally, wanted: &Wanted<'_>) {
-    let orders = asked(rt, alloc, TRACE);
-    let gate = Watch::holding(None);
-    let mut out = Vec::new(alloc);
-    let came = handled(rt, alloc, tally, &gate, &orders, &mut out);
-    is_wanted(rt, alloc, &came, &out, wanted);
-}
-
-fn hand_in_by_a_worker<R: Threads + Wait + Clock + Abort + Sync>(
-    rt: &R,
-    alloc: Global,
-    tally: Tally,
-    wanted: &Wanted<'_>,
-) {
-    let orders = asked(rt, alloc, TRACE);
-    let gate = Watch::holding(None);
-    let mut out = Vec::new(alloc);
-    let came = worked(rt, alloc, tally, &gate, 1, &orders, &mut out);
-    is_wanted(rt, alloc, &came, &out, wanted);
-}
-
 #[test]
 fn a_refused_order_is_told_so(rt: HostRuntime) {
-    hand_in_alone(&rt, rt.alloc(), REFUSING, &REFUSED);
-    hand_in_by_a_worker(&rt, rt.alloc(), REFUSING, &REFUSED);
-}
-
-#[test]
-fn no_refusal_is_told_where_none_was(rt: HostRuntime) {
-    hand_in_alone(&rt, rt.alloc(), WILLING, &TAKEN);
-    hand_in_by_a_worker(&rt, rt.alloc(), WILLING, &TAKEN);
+    comes_so(&rt, rt.alloc(), REFUSING, TRACE, &REFUSED);
+    comes_so(&rt, rt.alloc(), WILLING, TRACE, &TAKEN);
 }
 
 // As many orders as are handed in together.
 const ROW: u64 = 16;
 
-// Each order of a row finds nothing, but for the one of this number, which is refused: ENOMEM. Those behind it are
-// handed in together.
-fn is_refused_alone(rt: &impl Abort, alloc: Global, came: &Came, out: &[u8], number: u64) {
-    let mut handed = Vec::new(alloc);
+// All orders of a row but the one of this number.
+fn but_one(rt: &impl Abort, alloc: Global, number: u64) -> Vec<u64> {
+    let mut uniques = Vec::new(alloc);
+    for at in 0..ROW {
+        if at + 1 != number {
+            uniques.push(FIRST + at).expect(rt, "memory");
+        }
+    }
+    uniques
+}
+
+// Each order of a row finds nothing, but for the one of this number, which is refused: ENOMEM.
+fn row_replies(rt: &impl Abort, alloc: Global, number: u64) -> Vec<Reply> {
     let mut replies = Vec::new(alloc);
     for at in 0..ROW {
-        let unique = FIRST + at;
-        let mut error = 12u32;
-        if at + 1 != number {
-            error = 2;
-            handed.push(unique).expect(rt, "memory");
-        }
-        replies.push((unique, error)).expect(rt, "memory");
+        let error = if at + 1 == number { 12u32 } else { 2u32 };
+        replies.push((FIRST + at, error)).expect(rt, "memory");
     }
+    replies
+}
+
+// Those behind the one that is refused are handed in together.
+fn refuse_one<R: Wait + Abort>(rt: &R, alloc: Global, orders: &[Job], number: u64) {
+    let handed = but_one(rt, alloc, number);
+    let replies = row_replies(rt, alloc, number);
+    let behind = ROW.saturating_sub(number);
+    let rows = [ROW, behind];
+    let times = if behind > 0 { 2 } else { 1 };
     let wanted = Wanted {
         handed: &handed,
+        rows: &rows[..times],
         looked: &[],
         refused: true,
         replies: &replies,
+        ends: "",
     };
-    is_wanted(rt, alloc, came, out, &wanted);
-}
-
-fn refuse_one<R: Wait + Abort>(rt: &R, alloc: Global, number: u64) {
     let tally = Tally {
         refuses: Refuses::One(number),
         shows: true,
     };
-    let orders = lookups(rt, alloc, ROW);
-    let gate = Watch::holding(None);
-    let mut out = Vec::new(alloc);
-    let came = handled(rt, alloc, tally, &gate, &orders, &mut out);
-    is_refused_alone(rt, alloc, &came, &out, number);
-    let behind = ROW.saturating_sub(number);
-    let rows = [ROW, behind];
-    let times = if behind > 0 { 2 } else { 1 };
-    were_together(rt, &came, &rows[..times]);
+    are_handled(rt, alloc, tally, orders, &wanted);
 }
 
 #[test]
 fn each_order_of_a_row_is_refused_alone(rt: HostRuntime) {
+    let orders = lookups(&rt, rt.alloc(), ROW);
     for number in 1..=ROW {
-        refuse_one(&rt, rt.alloc(), number);
+        refuse_one(&rt, rt.alloc(), &orders, number);
     }
 }

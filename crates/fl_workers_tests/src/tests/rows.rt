@@ -1,17 +1,12 @@
-//! Orders that are handed in together.
+//! Orders that are handed in together, and orders between them that only read.
 
-use super::came::{Came, are_uniques, have_failed};
-use super::handling::handled;
-use super::orders::{asked, lookups};
-use super::tally::{Refuses, Tally, WILLING};
-use super::watch::Watch;
-use fl_testing::bytes_after;
-use std::alloc::Global;
-use std::process::Abort;
-use std::sync::Wait;
+use super::came::Wanted;
+use super::handling::comes_so;
+use super::tally::{DARK, WILLING};
+use fl_testing::Reply;
 
 // The fourth and the seventh only read.
-const TRACE: &str = "\
+const ROWS: &str = "\
 ask 0 2 1 0 0 0 create 0 420 61
 ask 0 3 2 0 0 0 setlk 1 7 0 9 1 11 0
 ask 0 4 2 0 0 0 setlk 1 8 20 29 1 12 0
@@ -21,53 +16,70 @@ ask 0 7 2 0 0 0 setlk 1 8 20 29 2 12 0
 ask 0 8 2 0 0 0 getattr
 ";
 
-// A counter that shows nothing.
-const DARK: Tally = Tally {
-    refuses: Refuses::Nothing,
-    shows: false,
+const DONE: &[Reply] = &[(2, 0), (3, 0), (4, 0), (5, 0), (6, 0), (7, 0), (8, 0)];
+
+const SPLIT: Wanted<'static> = Wanted {
+    handed: &[2, 3, 4, 6, 7],
+    rows: &[3, 2],
+    looked: &[5, 8],
+    refused: false,
+    replies: DONE,
+    ends: "",
 };
 
-fn come_of_trace<R: Wait + Abort>(rt: &R, alloc: Global, tally: Tally, gate: &Watch) -> Came {
-    let orders = asked(rt, alloc, TRACE);
-    let mut out = Vec::new(alloc);
-    handled(rt, alloc, tally, gate, &orders, &mut out)
-}
+// Each that only reads is handed in with the next.
+const NOT_SPLIT: Wanted<'static> = Wanted {
+    handed: &[2, 3, 4, 5, 6, 7, 8],
+    rows: &[3, 3, 1],
+    looked: &[],
+    refused: false,
+    replies: DONE,
+    ends: "",
+};
 
-/// So many orders were handed in together each time, with those that weren't taken then.
-pub(super) fn were_together(rt: &impl Abort, came: &Came, rows: &[u64]) {
-    are_uniques(rt, &came.rows, rows);
-}
+const READS: &str = "\
+ask 0 2 1 0 0 0 create 0 420 61
+ask 0 3 2 0 0 0 getattr
+ask 0 4 2 0 0 0 setlk 1 7 0 9 1 11 0
+ask 0 5 3 0 0 0 getattr
+ask 0 6 1 0 0 0 lookup 62
+ask 0 7 2 0 0 0 getlk 1 8 0 0 1 12 0
+";
 
-/// The same, and nothing went wrong.
-pub(super) fn are_rows(rt: &impl Abort, came: &Came, rows: &[u64]) {
-    have_failed(rt, came.failures, false);
-    were_together(rt, came, rows);
-}
+const REPLIES: &[Reply] = &[(2, 0), (3, 0), (4, 0), (5, 2), (6, 2), (7, 0)];
+
+// The reply to the GETLK: a write lock of bytes 0 to 9 by the process 11.
+const LOCKED: &str =
+    "2800000000000000070000000000000000000000000000000900000000000000010000000b000000";
+
+const SHOWN: Wanted<'static> = Wanted {
+    handed: &[2, 4, 6],
+    rows: &[1, 1, 1],
+    looked: &[3, 5, 7],
+    refused: false,
+    replies: REPLIES,
+    ends: LOCKED,
+};
+
+const HANDED_IN: Wanted<'static> = Wanted {
+    handed: &[2, 3, 4, 5, 6, 7],
+    rows: &[1, 2, 2, 1],
+    looked: &[],
+    refused: false,
+    replies: REPLIES,
+    ends: LOCKED,
+};
 
 #[test]
 fn what_only_reads_splits_a_row(rt: HostRuntime) {
-    let gate = Watch::holding(None);
-    let came = come_of_trace(&rt, rt.alloc(), WILLING, &gate);
-    are_rows(&rt, &came, &[3, 2]);
-    assert_eq!(&rt; gate.orders_before_the_first_reply(), 7);
+    comes_so(&rt, rt.alloc(), WILLING, ROWS, &SPLIT);
+    comes_so(&rt, rt.alloc(), WILLING, READS, &SHOWN);
 }
 
 #[test]
-fn what_is_not_shown_is_handed_in_with_the_next(rt: HostRuntime) {
-    let gate = Watch::holding(None);
-    let came = come_of_trace(&rt, rt.alloc(), DARK, &gate);
-    are_rows(&rt, &came, &[3, 3, 1]);
-}
-
-// A counter takes at most 16 at once.
-#[test]
-fn what_a_counter_leaves_is_handed_in_next(rt: HostRuntime) {
-    let alloc = rt.alloc();
-    let orders = lookups(&rt, alloc, 40);
-    let gate = Watch::holding(None);
-    let mut out = Vec::new(alloc);
-    let came = handled(&rt, alloc, WILLING, &gate, &orders, &mut out);
-    are_rows(&rt, &came, &[40, 24, 8]);
+fn what_is_not_shown_is_handed_in(rt: HostRuntime) {
+    comes_so(&rt, rt.alloc(), DARK, ROWS, &NOT_SPLIT);
+    comes_so(&rt, rt.alloc(), DARK, READS, &HANDED_IN);
 }
 
 // The second looks at what the third locks.
@@ -77,22 +89,17 @@ ask 0 3 2 0 0 0 getlk 1 8 0 9 1 12 0
 ask 0 4 2 0 0 0 setlk 1 7 0 9 1 11 0
 ";
 
-// The replies to these two: no lock of bytes 0 to 9, and that it is set.
-const UNLOCKED: &str =
-    "2800000000000000030000000000000000000000000000000900000000000000020000000c00000010000000000000000400000000000000";
-
-fn ends_with(rt: &impl Abort, alloc: Global, out: &[u8], wanted: &str) {
-    let wanted = bytes_after(alloc, wanted, "").expect(rt, "hex");
-    assert!(rt; out.ends_with(&wanted));
-}
+// The last replies: no lock of bytes 0 to 9, and that it is set.
+const NOT_LOCKED: Wanted<'static> = Wanted {
+    handed: &[2, 4],
+    rows: &[1, 1],
+    looked: &[3],
+    refused: false,
+    replies: &[(2, 0), (3, 0), (4, 0)],
+    ends: "2800000000000000030000000000000000000000000000000900000000000000020000000c00000010000000000000000400000000000000",
+};
 
 #[test]
 fn a_look_shows_no_order_behind_it(rt: HostRuntime) {
-    let alloc = rt.alloc();
-    let orders = asked(&rt, alloc, A_LOOK_BEFORE_A_LOCK);
-    let gate = Watch::holding(None);
-    let mut out = Vec::new(alloc);
-    let came = handled(&rt, alloc, WILLING, &gate, &orders, &mut out);
-    are_rows(&rt, &came, &[1, 1]);
-    ends_with(&rt, alloc, &out, UNLOCKED);
+    comes_so(&rt, rt.alloc(), WILLING, A_LOOK_BEFORE_A_LOCK, &NOT_LOCKED);
 }

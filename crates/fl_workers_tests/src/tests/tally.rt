@@ -4,10 +4,12 @@ ghost use Rattle.std.specs.Prelude.{◌≡◌, ◌≤◌, ◌+◌, ◌++◌, [],
 ghost use Rattle.fl_desk.specs.Answered.{IsAnsweredLast, answered_by};
 ghost use Rattle.fl_desk.specs.Legal.{step_lines};
 
+use super::came::Came;
 use fl_core::{Core, Rules, Tolds};
 use fl_desk::{Counter, HandFault, NoView, Outgoing, ToldLists};
 use fl_history::Lines;
 use fl_order::{Answer, Errno, Op, Order, Told};
+use fl_workers::Failures;
 use std::alloc::Global;
 use std::process::Abort;
 use std::sync::Wait;
@@ -54,6 +56,12 @@ pub(super) const WILLING: Tally = Tally {
     shows: true,
 };
 
+/// A counter that shows nothing.
+pub(super) const DARK: Tally = Tally {
+    refuses: Refuses::Nothing,
+    shows: false,
+};
+
 /// A worker's place.
 #[derive(Drop)]
 pub(super) struct Seat {
@@ -87,6 +95,22 @@ impl Seat {
             core: Core::new(alloc, Rules::standard()).expect(rt, "memory"),
             lines: Lines::new(alloc),
             shown: 0,
+        }
+    }
+
+    /// What came of orders at it, of which the worker told this.
+    pub(super) fn came(self, failures: Failures) -> Came {
+        let Seat {
+            orders,
+            rows,
+            looks,
+            ..
+        } = self;
+        Came {
+            handed: orders,
+            rows,
+            looked: looks,
+            failures,
         }
     }
 

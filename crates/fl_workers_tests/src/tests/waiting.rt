@@ -2,14 +2,12 @@
 
 ghost use Rattle.std.specs.Prelude.{◌≡◌, Some};
 
-use super::came::Came;
-use super::left::put_all;
+use super::came::{Came, are_rows};
 use super::orders::lookups;
-use super::rows::are_rows;
 use super::sending::{alone, begun, closed, opened};
 use super::tally::{Seat, WILLING};
 use fl_core::Rules;
-use fl_intake::{Intake, Job, TakeEnd};
+use fl_intake::{Intake, Job, PutEnd, TakeEnd};
 use fl_log::{Appender, FreshLog};
 use fl_workers::{
     OpenGate, Post, ReplyEntry, RowRoom, SharedSender, Worked, WriterName, worker_loop,
@@ -19,6 +17,19 @@ use std::marker::Brand;
 use std::process::Abort;
 use std::sync::ledger::Blank;
 use std::sync::{Mutex, Wait};
+
+// Puts all orders.
+fn put_all<R: Wait + Abort>(rt: &R, intake: &Intake, put: PutEnd, orders: &[Job]) -> PutEnd
+    requires { put.of ≡ intake.now }
+    ensures { result.of ≡ intake.now }
+{
+    let mut put = put;
+    for order in orders {
+        let is_in = intake.put(rt, &mut put, order).is_ok();
+        assert!(rt; is_in);
+    }
+    put
+}
 
 // Puts all orders, and then has a worker take them.
 fn taken<R: Wait + Abort>(rt: &R, alloc: Global, orders: &[Job]) -> Came {
@@ -78,9 +89,7 @@ fn taken_by<'w, N: WriterName, R: Wait + Abort>(
         room,
     );
     let Post { seat, own } = post;
-    let mut came = Came::new(alloc);
-    came.keep(rt, &seat, failures);
-    (came, own)
+    (seat.came(failures), own)
 }
 
 // A worker takes at most 16 at once, and hands them in together.

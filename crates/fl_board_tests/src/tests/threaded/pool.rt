@@ -4,7 +4,6 @@ ghost use Rattle.std.specs.Prelude.{◌≡◌, ◌<◌, ◌≤◌};
 ghost use Rattle.fl_core.specs.Tolds.{HasRoom};
 
 use super::super::{create, is_judged, new_tolds, order, see, take};
-use super::threads::{Orders, made};
 use super::{rounds, watched};
 use fl_board::{Ask, Board, BoardName, FreshLog, Seat};
 use fl_core::{Rules, Tolds};
@@ -23,8 +22,6 @@ use std::thread::Threads;
 /// What the seats of a board do.
 #[derive(Clone, Copy)]
 pub(super) enum Job {
-    /// Each hands in so many of these orders.
-    HandIn(Orders, u64),
     /// They hand in, look and meet.
     Rounds,
     /// One locks more and more, and the other looks on.
@@ -43,47 +40,24 @@ pub(super) enum Step {
 
 fn next_step(job: Job, worker: u32, round: u64) -> Step {
     match job {
-        Job::HandIn(orders, many) if round < many => Step::HandIn(made(orders, worker, round)),
-        Job::HandIn(_, _) => Step::End,
         Job::Rounds => rounds::next_step(worker, round),
         Job::Watched => watched::next_step(worker, round),
     }
 }
 
-/// What threads count together.
+/// What threads see together.
 #[derive(Drop)]
 pub(super) struct Counts {
-    // How many orders each worker handed in.
-    handed: Vec<AtomicU64>,
     // How many bytes the one that looks on was last shown to be locked.
     shown: AtomicU64,
 }
 
 impl Counts {
     /// Nothing is counted yet.
-    pub(super) fn new(rt: &impl Abort, alloc: Global) -> Counts {
-        let mut handed = Vec::new(alloc);
-        for _ in 0..16 {
-            handed.push(AtomicU64::new(0)).expect(rt, "memory");
-        }
+    pub(super) fn new() -> Counts {
         Counts {
-            handed,
             shown: AtomicU64::new(0),
         }
-    }
-
-    // A worker handed in one order more.
-    fn hand_in(&self, worker: u32) {
-        if let Some(its) = self.handed.get(worker as usize) {
-            its.fetch_add(1, Ordering::SeqCst);
-        }
-    }
-
-    /// How many orders a worker handed in.
-    pub(super) fn of_worker(&self, worker: usize) -> u64 {
-        self.handed
-            .get(worker)
-            .map_or(0, |its| its.load(Ordering::SeqCst))
     }
 
     // So many bytes are shown to be locked, as many as before or more. It says whether there are more to come.
@@ -112,20 +86,6 @@ struct WorkerPool<'a, L: BoardName, R: Wait> {
     counts: &'a Counts,
     plan: Plan,
     ghost its: { rules ≡ L.rules },
-}
-
-// The seat hands in an order, which is counted.
-fn hand_in<L: BoardName, R: Wait + Abort>(
-    pool: &WorkerPool<'_, L, R>,
-    seat: &mut Seat<L>,
-    order: &Order,
-    tolds: &mut Tolds,
-)
-    requires { HasRoom L.rules tolds.old }
-    ensures { tolds.new.room ≡ tolds.old.room }
-{
-    take(pool.rt, &pool.board, seat, order, tolds);
-    pool.counts.hand_in(seat.worker());
 }
 
 // The seat looks, and is shown something.
@@ -161,7 +121,7 @@ fn go<L: BoardName, R: Wait + Abort>(
         return false;
     };
     match next_step(pool.plan.job, seat.worker(), round) {
-        Step::HandIn(order) => hand_in(pool, seat, &order, tolds),
+        Step::HandIn(order) => take(pool.rt, &pool.board, seat, &order, tolds),
         Step::Look => look(pool, seat),
         Step::Meet => meet(pool, seats),
         Step::Watch => return watch(pool, seat),
@@ -222,9 +182,19 @@ fn run<L: BoardName + Send + Sync, R: Threads + Wait + Sync + Abort>(
 fn begin<L: BoardName, R: Wait + Abort>(pool: &WorkerPool<'_, L, R>, seats: &mut [Seat<L>]) {
     let mut tolds = new_tolds(pool.rt, pool.alloc, pool.rules);
     if let Some(first) = seats.first_mut() {
-        hand_in(pool, first, &create(pool.rt), &mut tolds);
+        take(pool.rt, &pool.board, first, &create(pool.rt), &mut tolds);
     }
     meet(pool, seats);
+}
+
+// They begin, and then all seats work, and come back.
+fn done<L: BoardName + Send + Sync, R: Threads + Wait + Sync + Abort>(
+    pool: &WorkerPool<'_, L, R>,
+    seats: Vec<Seat<L>>,
+) -> Vec<Seat<L>> {
+    let mut seats = seats;
+    begin(pool, &mut seats);
+    run(pool, in_rows(pool.rt, pool.alloc, seats, pool.plan))
 }
 
 fn closed<L: BoardName + Send + Sync, R: Threads + Wait + Sync + Abort>(
@@ -243,7 +213,7 @@ fn closed<L: BoardName + Send + Sync, R: Threads + Wait + Sync + Abort>(
     requires workers { (0 < workers) × (workers ≤ 16) }
     requires rules { rules ≡ L.rules }
 {
-    let (board, mut seats) = Board::<L, &R>::new(alloc, rt, blank, log, workers, rules)
+    let (board, seats) = Board::<L, &R>::new(alloc, rt, blank, log, workers, rules)
         .ok()
         .expect(rt, "a board");
     let pool = WorkerPool {
@@ -254,8 +224,7 @@ fn closed<L: BoardName + Send + Sync, R: Threads + Wait + Sync + Abort>(
         counts,
         plan,
     };
-    begin(&pool, &mut seats);
-    let back = run(&pool, in_rows(rt, alloc, seats, plan));
+    let back = done(&pool, seats);
     let WorkerPool { board, .. } = pool;
     match board.close(back) {
         Ok(history) => history,

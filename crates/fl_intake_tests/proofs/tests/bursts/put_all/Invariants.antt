@@ -1,5 +1,5 @@
 use Rattle.std.proofs.Common.{◌≡◌}
-use Rattle.fl_intake_tests.proofs.tests.bursts.HeldPutter.put_all.Given as goal
+use Rattle.fl_intake_tests.proofs.tests.bursts.put_all.Given as goal
 
 abbrev pub invariant-loop : goal.invariant-loop
 invariant-loop g l = l.put.of ≡ l.pool.intake

@@ -1,5 +1,0 @@
-use Rattle.std.proofs.Common.{◌≡◌}
-use Rattle.fl_workers_tests.proofs.tests.pool.WorkerPool.put_all.Given as goal
-
-abbrev pub invariant-loop-order : goal.invariant-loop-order
-invariant-loop-order g l = l.put.of ≡ l.self.intake
