@@ -1,5 +1,5 @@
 use Rattle.std.proofs.Common.{◌≡◌, length}
-use Rattle.fl_spans_tests.proofs.tests.arena.fills_every_slot_twice.Given as goal
+use Rattle.fl_ranges_tests.proofs.tests.arena.fills_every_slot_twice.Given as goal
 
 abbrev pub invariant-loop-round : goal.invariant-loop-round
 invariant-loop-round g l = length l.arena.chains ≡ 1

@@ -11,7 +11,7 @@ use Rattle.fl_spans.specs.Rows.{HasRoomOf}
 use Rattle.fl_spans.specs.Row.{with_spans}
 use Rattle.fl_spans.specs.declared.span.Span.{Span}
 use Rattle.fl_spans.specs.Spans.{IsSpan, AreSpans}
-use Rattle.fl_spans_tests.specs.OneRow.{IsOneRow}
+use Rattle.fl_ranges_tests.specs.OneRow.{IsOneRow}
 
 module _ {K M : Type 0} where
   abbrev AreOne : List (Row K (Span M)) → Type 0

@@ -1,6 +1,6 @@
 use Rattle.std.proofs.Common.{sym, ◌∙◌}
-use Rattle.fl_spans_tests.proofs.OneRowLemmas.{struck_row, first_row}
-use Rattle.fl_spans_tests.proofs.tests.spans.set.Goals as goal
+use Rattle.fl_ranges_tests.proofs.OneRowLemmas.{struck_row, first_row}
+use Rattle.fl_ranges_tests.proofs.tests.spans.set.Goals as goal
 
 pub returns-then-is_some : goal.returns-then-is_some
 returns-then-is_some c =

@@ -1,4 +1,4 @@
-//! Rows of runs by key: each public call once, and where the slots are.
+//! Rows of runs by key: each public call, and where the slots are.
 ghost use Rattle.std.specs.Prelude.{◌≡◌, ◌<◌};
 ghost use Rattle.fl_spans.specs.Rows.{chain_count, limit_of, HasRoomOf};
 
@@ -56,27 +56,18 @@ fn close(rows: &mut Rows<u8, u32>, chain: usize)
     }
 }
 
-// The key of a chain's first row, and its first run.
-fn first(rows: &Rows<u8, u32>, chain: usize) -> Option<(u8, u32)>
+// The key of a chain's first row, its first run and its last one.
+fn first(rows: &Rows<u8, u32>, chain: usize) -> Option<(u8, u32, u32)>
     requires { chain < chain_count rows.now }
 {
     let row = rows.first_row(chain);
     let key = *rows.key(&row)?;
-    let run = rows.first_run(&row);
-    Some((key, *rows.run(&run)?))
+    let first = rows.first_run(&row);
+    let last = rows.last_run(&row);
+    Some((key, *rows.run(&first)?, *rows.run(&last)?))
 }
 
-// Its last run.
-fn last(rows: &Rows<u8, u32>, chain: usize) -> Option<u32>
-    requires { chain < chain_count rows.now }
-{
-    let row = rows.first_row(chain);
-    rows.key(&row)?;
-    let run = rows.last_run(&row);
-    rows.run(&run).copied()
-}
-
-// Its second run.
+// The second run of that row.
 fn second(rows: &Rows<u8, u32>, chain: usize) -> Option<u32>
     requires { chain < chain_count rows.now }
 {
@@ -98,11 +89,19 @@ fn next(rows: &Rows<u8, u32>, chain: usize) -> Option<u8>
     rows.key(&row).copied()
 }
 
-// Whether the slot of a head is the first row of one of two chains.
+// The key of a chain's last row.
+fn last(rows: &Rows<u8, u32>, chain: usize) -> Option<u8>
+    requires { chain < chain_count rows.now }
+{
+    let row = rows.last_row(chain);
+    rows.key(&row).copied()
+}
+
+// Whether the slot of a head is a row of one of two chains.
 fn is_row(rows: &Rows<u8, u32>, slot: usize) -> bool
     requires { slot < limit_of rows.now }
 {
-    matches!(rows.head_place(slot), Place::On(0 | 1, 0))
+    matches!(rows.head_place(slot), Place::On(0 | 1, _))
 }
 
 // Whether the slot of a run has one.
@@ -110,6 +109,15 @@ fn is_run(rows: &Rows<u8, u32>, slot: usize) -> bool
     requires { slot < limit_of rows.now }
 {
     rows.slot_place(slot) != Place::Free
+}
+
+// So many of three slots are rows, and so many are runs.
+fn has(rt: &impl Abort, rows: &Rows<u8, u32>, wanted: (u8, u8))
+    requires { limit_of rows.now ≡ 3 }
+{
+    let heads = u8::from(is_row(rows, 0)) + u8::from(is_row(rows, 1)) + u8::from(is_row(rows, 2));
+    let runs = u8::from(is_run(rows, 0)) + u8::from(is_run(rows, 1)) + u8::from(is_run(rows, 2));
+    same(rt, &(heads, runs), &wanted);
 }
 
 // A row of two runs comes on chain 1, and another before it, which fills three slots.
@@ -121,11 +129,11 @@ fn come(rt: &impl Abort, rows: &mut Rows<u8, u32>)
     same(rt, &open(rows, 1, 7, 70), &Ok(()));
     same(rt, &add(rows, 1, 71), &Ok(()));
     rename(rows, 1, 8);
-    same(rt, &first(rows, 1), &Some((8, 71)));
+    same(rt, &first(rows, 1), &Some((8, 71, 70)));
     same(rt, &second(rows, 1), &Some(70));
-    same(rt, &last(rows, 1), &Some(70));
     same(rt, &open(rows, 1, 9, 90), &Ok(()));
     same(rt, &next(rows, 1), &Some(8));
+    same(rt, &last(rows, 1), &Some(8));
 }
 
 // There is room for no other, and they go.
@@ -136,7 +144,7 @@ fn go(rt: &impl Abort, rows: &mut Rows<u8, u32>)
     same(rt, &rows.free(), &0);
     same(rt, &open(rows, 0, 1, 10), &Err(Full));
     close(rows, 1);
-    same(rt, &first(rows, 1), &Some((8, 71)));
+    same(rt, &first(rows, 1), &Some((8, 71, 70)));
     close(rows, 1);
     same(rt, &first(rows, 1), &None);
     same(rt, &rows.free(), &3);
@@ -147,18 +155,7 @@ fn rows_come_and_go(rt: HostRuntime) {
     let mut rows = Rows::new(rt.alloc(), 2, 3, 0).expect(&rt, "memory");
     same(&rt, &rows.chain_count(), &2);
     come(&rt, &mut rows);
+    has(&rt, &rows, (2, 3));
     go(&rt, &mut rows);
-}
-
-#[test]
-fn each_slot_is_in_one_place(rt: HostRuntime) {
-    let mut rows = Rows::new(rt.alloc(), 2, 3, 0).expect(&rt, "memory");
-    same(&rt, &open(&mut rows, 1, 7, 70), &Ok(()));
-    same(&rt, &open(&mut rows, 0, 9, 90), &Ok(()));
-    let heads = u8::from(is_row(&rows, 0))
-        + u8::from(is_row(&rows, 1))
-        + u8::from(is_row(&rows, 2));
-    same(&rt, &heads, &2);
-    let runs = u8::from(is_run(&rows, 0)) + u8::from(is_run(&rows, 1)) + u8::from(is_run(&rows, 2));
-    same(&rt, &runs, &2);
+    has(&rt, &rows, (0, 0));
 }
