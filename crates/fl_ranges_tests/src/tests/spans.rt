@@ -72,28 +72,34 @@ fn gives(
     same(rt, &set(rows, start, end, mark), &wanted);
 }
 
-// The span that is found, if one is, begins there.
-fn finds(rt: &impl Abort, rows: &Spans, start: u64, end: u64, wanted: Option<u64>)
+// The span that is found, or none.
+fn finds(rt: &impl Abort, rows: &Spans, start: u64, end: u64, wanted: Option<Span<Mark>>)
     requires one_row { IsOneRow rows.now }
     requires ordered { start ≤ end }
     requires in_range { end ≤ LAST_BYTE }
 {
-    same(
-        rt,
-        &write_in(rows, start, end).map(|span| span.start),
-        &wanted,
-    );
+    same(rt, &write_in(rows, start, end), &wanted);
 }
 
 #[test]
 fn a_span_is_cut_and_found(rt: HostRuntime) {
+    let first = Span {
+        start: 10,
+        end: 14,
+        mark: WRITE,
+    };
+    let last = Span {
+        start: 21,
+        end: 30,
+        ..first
+    };
     let mut rows = no_spans(&rt, rt.alloc(), 3);
     gives(&rt, &mut rows, 10, 30, Some(WRITE), Ok(()));
     gives(&rt, &mut rows, 15, 20, Some(READ), Ok(()));
     gives(&rt, &mut rows, 25, 25, None, Err(Full));
     finds(&rt, &rows, 0, 9, None);
-    finds(&rt, &rows, 12, 30, Some(10));
+    finds(&rt, &rows, 12, 30, Some(first));
     finds(&rt, &rows, 15, 20, None);
-    finds(&rt, &rows, 15, 30, Some(21));
+    finds(&rt, &rows, 15, 30, Some(last));
     same(&rt, &rows.free(), &0);
 }
