@@ -56,27 +56,27 @@ fn close(rows: &mut Rows<u8, u32>, chain: usize)
     }
 }
 
-// The key of a chain's first row, its first run and its last one.
-fn first(rows: &Rows<u8, u32>, chain: usize) -> Option<(u8, u32, u32)>
+// The key of a chain's first row, and its first run.
+fn first(rows: &Rows<u8, u32>, chain: usize) -> Option<(u8, u32)>
     requires { chain < chain_count rows.now }
 {
     let row = rows.first_row(chain);
     let key = *rows.key(&row)?;
-    let first = rows.first_run(&row);
-    let last = rows.last_run(&row);
-    Some((key, *rows.run(&first)?, *rows.run(&last)?))
+    let run = rows.first_run(&row);
+    Some((key, *rows.run(&run)?))
 }
 
-// The second run of that row.
-fn second(rows: &Rows<u8, u32>, chain: usize) -> Option<u32>
+// Its second run and its last one.
+fn others(rows: &Rows<u8, u32>, chain: usize) -> Option<(u32, u32)>
     requires { chain < chain_count rows.now }
 {
     let row = rows.first_row(chain);
     rows.key(&row)?;
+    let last = rows.last_run(&row);
     let mut run = rows.first_run(&row);
     rows.run(&run)?;
     rows.next_run(&mut run);
-    rows.run(&run).copied()
+    Some((*rows.run(&run)?, *rows.run(&last)?))
 }
 
 // The key of a chain's second row.
@@ -129,8 +129,8 @@ fn come(rt: &impl Abort, rows: &mut Rows<u8, u32>)
     same(rt, &open(rows, 1, 7, 70), &Ok(()));
     same(rt, &add(rows, 1, 71), &Ok(()));
     rename(rows, 1, 8);
-    same(rt, &first(rows, 1), &Some((8, 71, 70)));
-    same(rt, &second(rows, 1), &Some(70));
+    same(rt, &first(rows, 1), &Some((8, 71)));
+    same(rt, &others(rows, 1), &Some((70, 70)));
     same(rt, &open(rows, 1, 9, 90), &Ok(()));
     same(rt, &next(rows, 1), &Some(8));
     same(rt, &last(rows, 1), &Some(8));
@@ -144,7 +144,7 @@ fn go(rt: &impl Abort, rows: &mut Rows<u8, u32>)
     same(rt, &rows.free(), &0);
     same(rt, &open(rows, 0, 1, 10), &Err(Full));
     close(rows, 1);
-    same(rt, &first(rows, 1), &Some((8, 71, 70)));
+    same(rt, &first(rows, 1), &Some((8, 71)));
     close(rows, 1);
     same(rt, &first(rows, 1), &None);
     same(rt, &rows.free(), &3);
