@@ -72,8 +72,6 @@ fn heads(rt: &impl Abort, table: &Table) -> [bool; 2]
 #[test]
 fn slots_are_free_or_on_a_chain_and_keys_on_their_nodes(rt: HostRuntime) {
     let mut table = Table::new(rt.alloc(), 3, 256).expect(&rt, "memory");
-    same(&rt, &table.slot_place(0), &Place::Free);
-    same(&rt, &heads(&rt, &table), &[false, false]);
     put(&rt, &mut table, 1, 5, 9, READ);
     put(&rt, &mut table, 1, 0, 1, READ);
     same(&rt, &indices(&rt, &table), &[true, true]);
