@@ -1,17 +1,4 @@
-//! Tests of the directory: by what is public of it, and where its numbers are at their ends.
+//! Tests of the directory where its numbers are at their ends. `tools/try_directory`, `tools/try_ranges` and
+//! `tools/try_locks` have the others.
 
-mod calls;
-mod dir;
-mod directory;
 mod last_numbers;
-mod limits;
-mod lives;
-mod rooms;
-
-use std::fmt::Debug;
-use std::process::Abort;
-
-// What was told is what is wanted.
-fn same<T: Debug + PartialEq>(rt: &impl Abort, told: &T, wanted: &T) {
-    assert_eq!(rt; *told, *wanted);
-}

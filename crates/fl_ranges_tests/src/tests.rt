@@ -1,15 +1,9 @@
-//! Tests of the lock table, by what is public of it.
+//! Tests of the arena, of rows, of spans and of the lock table, by what is public of them.
 
-mod asked;
-mod blocker;
-mod contenders;
-mod crowd;
-mod grid;
-mod locks;
-mod owners;
+mod arena;
 mod ranges;
-mod script;
-mod strokes;
+mod rows;
+mod spans;
 
 use std::fmt::Debug;
 use std::process::Abort;

@@ -20,13 +20,6 @@ fn fill_lookups(dir: &mut Dir, number: u64) {
     }
 }
 
-// Opens the node until no fh is left.
-fn open_all(dir: &mut Dir, node: u64) {
-    for _ in 0..1024 {
-        let _ = dir.open(node);
-    }
-}
-
 fn name(rt: &impl Abort, bytes: &[u8]) -> Name {
     Name::new(bytes).expect(rt, "a name")
 }
@@ -64,13 +57,9 @@ fn is_made(rt: &impl Abort, told: &Result<Answer, Errno>, node: u64, fh: u64) {
     is(rt, told, &Ok(Answer::Made(file(node), fh)));
 }
 
-fn is_found(rt: &impl Abort, told: &Result<Answer, Errno>, node: u64) {
-    is(rt, told, &Ok(Answer::Entry(file(node))));
-}
-
 #[test]
 fn lookups_are_counted_to_their_last_count(rt: HostRuntime) {
-    let mut dir = Dir::new(rt.alloc(), 256, 1024).expect(&rt, "memory");
+    let mut dir = directory_at(&rt, rt.alloc(), 2, 1);
     counts_lookups(&rt, &mut dir, &name(&rt, b"a"));
 }
 
@@ -82,7 +71,7 @@ fn counts_lookups(rt: &impl Abort, dir: &mut Dir, a: &Name) {
     is_refused(rt, &opened(dir, a), Errno::ENFILE);
     is(rt, &dir.open(2), &Ok(Answer::Open(2)));
     dir.forget(2, 1);
-    is_found(rt, &dir.lookup(1, a), 2);
+    is(rt, &dir.lookup(1, a), &Ok(Answer::Entry(file(2))));
 }
 
 #[test]
@@ -96,27 +85,6 @@ fn uses_nodes_up(rt: &impl Abort, dir: &mut Dir, a: &Name) {
     is_refused(rt, &made(dir, &name(rt, b"b")), Errno::ENOSPC);
     is_refused(rt, &made(dir, &name(rt, b".")), Errno::EINVAL);
     is_made(rt, &opened(dir, a), LAST, 2);
-}
-
-#[test]
-fn nodes_and_open_files_are_both_used_up(rt: HostRuntime) {
-    let mut dir = directory_at(&rt, rt.alloc(), LAST, 1);
-    uses_both_up(&rt, &mut dir, &name(&rt, b"a"));
-}
-
-fn uses_both_up(rt: &impl Abort, dir: &mut Dir, a: &Name) {
-    is_made(rt, &made(dir, a), LAST, 1);
-    open_all(dir, LAST);
-    is_refused(rt, &dir.open(LAST), Errno::ENFILE);
-    is_refused(rt, &dir.open(2), Errno::ENOENT);
-    is_refused(rt, &dir.open(1), Errno::EISDIR);
-    is_refused(rt, &opened(dir, a), Errno::ENFILE);
-    is_refused(rt, &made(dir, a), Errno::EEXIST);
-    is_refused(rt, &made(dir, &name(rt, b"b")), Errno::ENOSPC);
-    is_refused(rt, &made(dir, &name(rt, b".")), Errno::EINVAL);
-    let in_a_file = dir.create(LAST, 5, 6, true, 0o644, a);
-    is_refused(rt, &in_a_file, Errno::ENOTDIR);
-    is_found(rt, &dir.lookup(1, a), LAST);
 }
 
 #[test]

@@ -1,2 +1,0 @@
-mod OneRowLemmas
-mod SortedLemmas

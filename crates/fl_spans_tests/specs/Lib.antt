@@ -1,2 +1,0 @@
-pub mod OneRow
-pub mod Sorted
