@@ -8,7 +8,7 @@
 //!
 //! Which free slot `insert` takes is left open. After `new` no call can be refused for memory. That none takes any is
 //! no clause: the prover refuses an `insert` that makes room in its vector at a step of the proof (edit
-//! `insert_makes_room_in_its_vector`). `fl_spans_tests` compares calls with plain lists, and fills all slots twice.
+//! `insert_makes_room_in_its_vector`). `fl_ranges_tests` makes each call, and fills all slots twice.
 #![tactic(auto)]
 
 mod chains;
