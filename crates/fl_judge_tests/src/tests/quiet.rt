@@ -1,19 +1,14 @@
 //! What is said of histories. A table of orders and their replies is a trace, as `docs/TRACE.md` says.
 
-mod plain;
-mod random;
 mod traces;
 
 use fl_core::Rules;
 use fl_desk::{Verdict, check};
 use fl_history::History;
 use fl_judge::quiet;
-use fl_order::LockAsk;
 use fl_trace::read_trace;
 use std::alloc::Global;
 use std::process::Abort;
-
-const UNLOCK: u32 = 2;
 
 // The history whose text is these pieces, one behind the other.
 fn read_pieces(rt: &impl Abort, alloc: Global, pieces: &[&str]) -> History {
@@ -38,9 +33,4 @@ fn judge(rt: &impl Abort, alloc: Global, history: &History, rules: Rules, wanted
 
 fn assert_legal(rt: &impl Abort, verdict: &Verdict) {
     assert_eq!(rt; *verdict, Verdict::Legal);
-}
-
-// A record lock of type read or write is asked for.
-fn is_for_a_record_lock(ask: &LockAsk) -> bool {
-    ask.flags % 2 == 0 && ask.kind < UNLOCK
 }
