@@ -1,4 +1,5 @@
-//! Tests of the commands of `lockd`, and of what answers their scripts.
+//! Tests of what no built program shows of the commands of `lockd`: an output that takes all, and then can't hand it on. Scripts of
+//! `tools` try the rest.
 #![tactic(auto)]
 
 #[cfg(test)]
