@@ -144,7 +144,7 @@ refuse_script() {
 
 # The trace that stands behind this title among the scripts of the tests.
 worked() {
-    awk -v title="# $1" '$0 == title { taken = 1; next } /^[#"]/ { taken = 0 } taken' crates/lockd_commands_tests/src/tests/scripts/*.rt
+    awk -v title="# $1" '$0 == title { taken = 1; next } /^[#"]/ { taken = 0 } taken' tools/cases/scripts.txt
 }
 
 for example in a_lock_is_waited_for a_file_lives_while_it_is_open; do

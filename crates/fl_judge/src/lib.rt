@@ -11,7 +11,8 @@
 //!   seen in the code;
 //! - that `audit`, `hear_first` and `hear_cut` read on after a bad line, or the last that is wanted, which tests show,
 //!   nor what they say of a reader whose bytes aren't known;
-//! - that they tell a failed read or `NoMemory` only if there was one. `lockd_commands_tests` has tests of that.
+//! - that they tell a failed read or `NoMemory` only if there was one: `tools/try_pieces` and
+//!   `tools/refuse_each_allocation.sh` see that.
 #![tactic(auto)]
 
 mod asking;

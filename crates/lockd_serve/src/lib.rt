@@ -27,7 +27,7 @@
 //! - a server that tells its observer something else than what it does, or nothing, or another reason.
 //!
 //! These tests refuse most of them:
-//! - sessions of each kind, over a socket: `tools/try_sockets`, `tools/try_ends`, `lockd_commands_tests`;
+//! - sessions of each kind, over a socket: `tools/try_sockets`, `tools/try_ends`, `tools/try_served`;
 //! - the file at the path, before a server listens: `try_paths_that_cannot_be_bound` of `tools/try_sockets`;
 //! - the file at the path, once a client connects: `try_a_file_of_somebody_else` and `try_ends` of `tools/try_ends`;
 //! - traces, files that go or can't be written, and `when_full`: `tools/try_traces`;
