@@ -5,6 +5,7 @@
 // waits never counts.
 #define _GNU_SOURCE
 #include <errno.h>
+#include <fcntl.h>
 #include <stddef.h>
 #include <stdio.h>
 #include <stdlib.h>
@@ -40,15 +41,17 @@ __attribute__((constructor)) static void begin(void)
     take(&allocations, "ALLOCATIONS");
 }
 
-// A program of one thread may end by a return from its `main`.
+// A program of one thread may end by a return from its `main`. No file of the C library is used here, since that takes memory.
 __attribute__((destructor)) static void end(void)
 {
     const char *path = getenv("COUNTED");
-    unsigned long asked = allocations.count;
-    FILE *file = path ? fopen(path, "w") : NULL;
-    if (file) {
-        fprintf(file, "%lu %lu %lu\n", reads.count, writes.count, asked);
-        fclose(file);
+    char text[80];
+    int size = snprintf(text, sizeof text, "%lu %lu %lu\n", reads.count, writes.count, allocations.count);
+    int file = path ? open(path, O_WRONLY | O_TRUNC) : -1;
+    if (file >= 0) {
+        if (write(file, text, (size_t)size) != size)
+            abort();
+        close(file);
     }
 }
 
