@@ -1,17 +1,13 @@
 //! Sessions with workers.
 
-mod serving;
+mod alone;
+mod bursts;
 
 use fl_serve::Fault;
 use std::process::Abort;
 
 // These are the bytes that are wanted.
 fn are_bytes(rt: &impl Abort, found: &[u8], wanted: &[u8]) {
-    assert_eq!(rt; found, wanted);
-}
-
-// There are as many as are wanted.
-fn count_is(rt: &impl Abort, found: usize, wanted: usize) {
     assert_eq!(rt; found, wanted);
 }
 
