@@ -8,7 +8,7 @@
 //! - a `finish` that gives what is left in another order, a `new` that is always refused, and a call that waits for
 //!   ever, as a `put` would if boxes weren't set free;
 //! - one that wakes nobody or all, a `spin` or `call_one_more` that does nothing, a `close` that only marks its end.
-//! Tests refuse these. Only `fl_serve_clients_tests` sees that nobody wakes a second worker.
+//! Tests refuse these. Only `fl_serve_tests` sees that nobody wakes a second worker.
 #![tactic(auto)]
 
 mod ends;
