@@ -8,30 +8,29 @@ use Rattle.std.specs.Str.Pattern.{FindsTextPrefix, LacksTextAt, StripsPrefix}
 use Rattle.fl_testing.specs.Inside.Stored.{behind}
 
 -- it does
-pub behind_it : (mark end line : List ℕ) → line ≡ mark ++ drop (length mark) line → behind mark end line ≡ drop (length mark) line ++ end
-behind_it mark end line e =
+pub behind_it : (mark line : List ℕ) → line ≡ mark ++ drop (length mark) line → behind mark line ≡ drop (length mark) line
+behind_it mark line e =
     let begins : take (length mark) line ≡ mark = ap (take (length mark)) e ∙ take_front mark (drop (length mark) line) in
-    ap (λ b. cond b (drop (length mark) line ++ end) []) ((bytes_eq-Decides (take (length mark) line) mark).1 begins)
+    ap (λ b. cond b (drop (length mark) line) []) ((bytes_eq-Decides (take (length mark) line) mark).1 begins)
   where
     take_front : (xs ys : List ℕ) → take (length xs) (xs ++ ys) ≡ xs
     take_front [] ys = refl
     take_front (x ∷ xs) ys = ap (λ t. x ∷ t) (take_front xs ys)
 
 -- it doesn't
-pub behind_none : (mark end line : List ℕ) → ((rest : List ℕ) → line ≢ mark ++ rest) → behind mark end line ≡ []
-behind_none mark end line none = go (bytes_eq (take (length mark) line) mark) refl
+pub behind_none : (mark line : List ℕ) → ((rest : List ℕ) → line ≢ mark ++ rest) → behind mark line ≡ []
+behind_none mark line none = go (bytes_eq (take (length mark) line) mark) refl
   where
-    go : (b : Bool) → bytes_eq (take (length mark) line) mark ≡ b → behind mark end line ≡ []
+    go : (b : Bool) → bytes_eq (take (length mark) line) mark ≡ b → behind mark line ≡ []
     go true e =
         let begins : take (length mark) line ≡ mark = (bytes_eq-Decides (take (length mark) line) mark).0 e in
         absurd (none (drop (length mark) line) (sym (take-append-drop (length mark) line) ∙ ap (λ t. t ++ drop (length mark) line) begins))
-    go false e = ap (λ b. cond b (drop (length mark) line ++ end) []) e
+    go false e = ap (λ b. cond b (drop (length mark) line) []) e
 
 -- the same of what `strip_prefix` answers
-pub stripped : (mark end line rest : List ℕ) → StripsPrefix (FindsTextPrefix mark) line rest → behind mark end line ≡ rest ++ end
-stripped mark end line rest h =
-    behind_it mark end line (subst (λ n. line ≡ mark ++ drop n line) h.1.0 h.1.1)
-    ∙ ap (λ t. t ++ end) (sym (h.2 ∙ ap (λ n. drop n line) h.1.0))
+pub stripped : (mark line rest : List ℕ) → StripsPrefix (FindsTextPrefix mark) line rest → behind mark line ≡ rest
+stripped mark line rest h =
+    behind_it mark line (subst (λ n. line ≡ mark ++ drop n line) h.1.0 h.1.1) ∙ sym (h.2 ∙ ap (λ n. drop n line) h.1.0)
 
-pub not_stripped : (mark end line : List ℕ) → LacksTextAt mark line 0 → behind mark end line ≡ []
-not_stripped mark end line none = behind_none mark end line none
+pub not_stripped : (mark line : List ℕ) → LacksTextAt mark line 0 → behind mark line ≡ []
+not_stripped mark line none = behind_none mark line none

@@ -2,7 +2,6 @@
 use Rattle.std.specs.Prelude.{ℕ, ◌+◌, ◌*◌, ◌/◌, ◌%◌, ◌^◌, List, [], ◌∷◌}
 use Rattle.std.specs.Int.{w64, to_le_bytes}
 use Rattle.std.specs.List.{flat_map}
-use Rattle.fl_testing.specs.declared.messages.Lock.{Lock}
 
 -- two numbers of 4 bytes, the first of which stands first, as one of 8
 abbrev pub pair : ℕ → ℕ → ℕ
@@ -16,14 +15,6 @@ longs numbers = flat_map (to_le_bytes w64) numbers
 abbrev pub header : ℕ → ℕ → ℕ → ℕ → List ℕ
 header len opcode unique node = pair len opcode ∷ unique ∷ node ∷ 0 ∷ 0 ∷ []
 
--- struct fuse_lk_in: fh, owner, start, end, the type and the pid 11, lk_flags and padding
-abbrev pub lock_in : Lock → List ℕ
-lock_in lock = lock.fh ∷ lock.owner ∷ lock.start ∷ lock.end ∷ pair lock.kind 11 ∷ 0 ∷ []
-
 -- a name of two letters for each number below 256, and its zero byte
 abbrev pub letters : ℕ → List ℕ
 letters name = (97 + name / 16 % 16) ∷ (97 + name % 16) ∷ 0 ∷ []
-
--- struct fuse_forget_one of one lookup of each of these nodes
-unfoldable pub forgets : List ℕ → List ℕ
-forgets nodes = flat_map (λ node. longs (node ∷ 1 ∷ [])) nodes

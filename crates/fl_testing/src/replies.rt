@@ -6,9 +6,9 @@ ghost use Rattle.fl_testing.specs.Replies.{error, long, word};
 /// The unique of a reply, and the number of its error, 0 if it has none.
 pub type Reply = (u64, u32);
 
-/// The number in the 4 bytes from a place on, the lowest first; 0 if there are fewer.
+// The number in the 4 bytes from a place on, the lowest first; 0 if there are fewer.
 #[tactic(auto, unfolding(crate::specs::Replies::word))]
-pub fn word_at(bytes: &[u8], at: usize) -> u32
+fn word_at(bytes: &[u8], at: usize) -> u32
     ensures { result ≡ word bytes.now at }
 {
     if bytes.len() < 4 || bytes.len() - 4 < at {
@@ -17,9 +17,9 @@ pub fn word_at(bytes: &[u8], at: usize) -> u32
     u32::from_le_bytes([bytes[at], bytes[at + 1], bytes[at + 2], bytes[at + 3]])
 }
 
-/// The same of 8 bytes.
+// The same of 8 bytes.
 #[tactic(auto, unfolding(crate::specs::Replies::long))]
-pub fn long_at(bytes: &[u8], at: usize) -> u64
+fn long_at(bytes: &[u8], at: usize) -> u64
     ensures { result ≡ long bytes.now at }
 {
     if bytes.len() < 8 || bytes.len() - 8 < at {
@@ -28,8 +28,8 @@ pub fn long_at(bytes: &[u8], at: usize) -> u64
     u64::from(word_at(bytes, at)) + 4_294_967_296 * u64::from(word_at(bytes, at + 4))
 }
 
-/// What a reply says in its first 16 bytes, behind its length.
-pub fn reply_of(head: &[u8]) -> Reply
+// What a reply says in its first 16 bytes, behind its length.
+fn reply_of(head: &[u8]) -> Reply
     ensures { (result.0 ≡ long head.now 8) × (result.1 ≡ error head.now) }
 {
     (long_at(head, 8), 0u32.wrapping_sub(word_at(head, 4)))

@@ -1,18 +1,18 @@
-//! Which calls of a reader or a writer fail, and how.
+//! Which calls of a writer fail, and how.
 
 ghost use Rattle.std.specs.Prelude.{◌≡◌, ◌↔◌, ◌≤◌, ◌-◌, ◌^◌, true, false, IsTrue, IsNone};
 ghost use Rattle.fl_testing.specs.Trouble.{Meets};
 
 use std::io::ErrorKind;
 
-/// A reader or a writer whose calls fail from one on, or one of them alone.
+/// A writer whose calls fail from one on, or one of them alone.
 #[derive(Clone, Copy, Debug)]
 pub struct Trouble {
     /// How many calls come before the first that fails.
     pub after: usize,
     /// No other call fails.
     pub once: bool,
-    /// How they fail. If nothing is said, a write doesn't fail and takes no byte; a read then fails as `Other`.
+    /// How they fail. If nothing is said, a write doesn't fail and takes no byte.
     pub kind: Option<ErrorKind>,
 }
 

@@ -8,6 +8,6 @@ use Rattle.fl_testing.proofs.stored.marked.Goals as goal
 
 pub returns : goal.returns
 returns c =
-    let found = behind c.args.mark.now c.args.end.now in
+    let found = behind c.args.mark.now in
     let all = YieldsList-end (YieldsList-from_lines c.args.text.now cc) c.loop-line.yielded _ c.loop-line.yielded_by _ _ c.in-None.is c.next.ensures.steps in
     c.loop-line.invariant ∙ sym (flat_map-map found (λ x. x.now) c.loop-line.yielded) ∙ ap (flat_map found) all.0

@@ -5,4 +5,4 @@ use Rattle.fl_testing.proofs.stored.marked.Given as goal
 
 -- what is found so far is of the lines so far
 abbrev pub invariant-loop-line : goal.invariant-loop-line
-invariant-loop-line l = string_bytes l.found ≡ flat_map (λ line. behind l.mark l.end line.now) l.yielded
+invariant-loop-line l = string_bytes l.found ≡ flat_map (λ line. behind l.mark line.now) l.yielded
