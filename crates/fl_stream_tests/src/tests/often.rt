@@ -57,12 +57,6 @@ fn goes(
     sink.writes
 }
 
-const WRITTEN: Course = Course {
-    count: 2_048,
-    written: true,
-    broken: false,
-};
-
 // Nothing is written before it is stored, if there is room. There is for 2,048 lines.
 #[test]
 fn lines_are_written_when_the_room_is_full(rt: HostRuntime) {
@@ -70,7 +64,8 @@ fn lines_are_written_when_the_room_is_full(rt: HostRuntime) {
         let sink = Sink::new(rt.alloc(), usize::MAX, Trouble::none());
         let course = Course {
             count: times,
-            ..WRITTEN
+            written: true,
+            broken: false,
         };
         let writes = goes(
             &rt,

@@ -42,13 +42,19 @@ fn long_history(rt: &impl Abort, alloc: Global, line: &Line, times: usize) -> Hi
 #[test]
 fn a_room_is_used_again(rt: HostRuntime) {
     let alloc = rt.alloc();
-    let text = TRACE.as_bytes();
     let history = history_of(&rt, alloc, TRACE);
     let mut room = TraceRoom::new(alloc).expect(&rt, "memory");
     let full = Sink::new(alloc, 7, Trouble::behind(5, None));
-    written(&rt, &mut room, &history, full, Err(Unwritten), &text[..35]);
+    written(
+        &rt,
+        &mut room,
+        &history,
+        full,
+        Err(Unwritten),
+        &TRACE.as_bytes()[..35],
+    );
     let a_byte = Sink::new(alloc, 1, Trouble::none());
-    written(&rt, &mut room, &history, a_byte, Ok(()), text);
+    written(&rt, &mut room, &history, a_byte, Ok(()), TRACE.as_bytes());
     let sink = Sink::new(alloc, 1, Trouble::none());
     written(&rt, &mut room, &History::new(alloc), sink, Ok(()), b"");
 }
@@ -77,10 +83,10 @@ fn each_write_of_a_long_history_fails(rt: HostRuntime) {
     let line = first_line(&rt, alloc);
     let history = long_history(&rt, alloc, &line, 10_000);
     let mut room = TraceRoom::new(alloc).expect(&rt, "memory");
-    for fails_at in 0..6 {
+    for fails_at in 0..6usize {
         let sink = Sink::failing_once(alloc, fails_at, ErrorKind::Other);
         let writes = goes_out(&rt, &mut room, &history, sink, Err(Unwritten));
-        count_is(&rt, writes, fails_at + 1);
+        count_is(&rt, writes, fails_at.saturating_add(1));
     }
     let sink = Sink::failing_once(alloc, 2, ErrorKind::Interrupted);
     let writes = goes_out(&rt, &mut room, &history, sink, Ok(()));
