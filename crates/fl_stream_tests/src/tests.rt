@@ -1,18 +1,13 @@
-//! What a journal is handed, and what a writer holds then.
+//! What a stream is handed, and what its writer holds then.
 
-ghost use Rattle.fl_stream.specs.Streams.{IsBlank};
-
-mod behind;
-mod ending;
-mod failing;
+mod often;
 mod printing;
-mod recent;
 mod refused;
 mod refusing;
-mod whole;
+mod storing;
 
 use fl_history::{History, Journal, Line};
-use fl_stream::{Streamed, WhenWriterFails};
+use fl_stream::Streamed;
 use fl_trace::read_trace;
 use std::alloc::Global;
 use std::io::Write;
@@ -66,12 +61,12 @@ fn holds(rt: &impl Abort, held: &[u8], wanted: &[u8]) {
     assert_eq!(rt; *held, *wanted);
 }
 
-// What became of a stream: how many lines it took, whether it said at the end that all is written, and whether it
-// broke.
+// What became of a stream: a count of its lines or flushes, whether it said at the end that all is written, and whether
+// it broke.
 #[derive(Clone, Copy, Debug, PartialEq, Eq)]
 struct Course {
-    taken: usize,
-    flushed: bool,
+    count: usize,
+    written: bool,
     broken: bool,
 }
 
@@ -79,73 +74,17 @@ fn course_is(rt: &impl Abort, found: &Course, wanted: &Course) {
     assert_eq!(rt; *found, *wanted);
 }
 
-// All lines were taken and are written.
-fn is_written(rt: &impl Abort, found: &Course) {
-    let wanted = Course {
-        taken: LINES,
-        flushed: true,
-        broken: false,
-    };
-    course_is(rt, found, &wanted);
-}
-
-// All lines were taken, and the writer lacks some.
-fn is_given_up(rt: &impl Abort, found: &Course) {
-    let wanted = Course {
-        taken: LINES,
-        flushed: false,
-        broken: true,
-    };
-    course_is(rt, found, &wanted);
-}
-
-// Hands all lines of a history to a stream over this writer, and gives the writer back.
-fn streamed<W: Write + Drop>(
-    rt: &impl Abort,
-    writer: W,
-    manner: WhenWriterFails,
-    history: &History,
-    alloc: Global,
-) -> (Course, W)
-    requires { IsBlank (W.contents writer) }
-{
-    let made = Streamed::new(alloc, writer, manner);
-    let mut stream = made.expect(rt, "no memory");
-    let taken = hand_all(&mut stream, history);
-    finished(stream, taken)
-}
-
-// Hands one line so many times to a stream over this writer, and gives the writer back.
-fn streamed_often<W: Write + Drop>(
-    rt: &impl Abort,
-    writer: W,
-    manner: WhenWriterFails,
-    times: usize,
-    alloc: Global,
-) -> (Course, W)
-    requires { IsBlank (W.contents writer) }
-{
-    let line = first_line(rt, alloc);
-    let made = Streamed::new(alloc, writer, manner);
-    let mut stream = made.expect(rt, "no memory");
-    let taken = hand_often(&mut stream, &line, times);
-    finished(stream, taken)
-}
-
-fn finished<W: Write>(stream: Streamed<W>, taken: usize) -> (Course, W) {
+fn finished<W: Write>(stream: Streamed<W>, count: usize) -> (Course, W) {
     let mut stream = stream;
-    let flushed = stream.finish() && stream.is_whole();
+    let written = stream.finish() && stream.is_whole();
     let broken = stream.is_broken();
     let course = Course {
-        taken,
-        flushed,
+        count,
+        written,
         broken,
     };
     (course, stream.into_writer())
 }
-
-// What may go to another thread.
-fn may_go<T: Send>(_sent: &T) {}
 
 // Hands a line to a journal, and says whether it took it.
 fn hand<J: Journal>(kept: &mut J, line: &Line) -> bool {
@@ -157,27 +96,4 @@ fn hand<J: Journal>(kept: &mut J, line: &Line) -> bool {
         Line::Told(told) => kept.push_told(told),
     }
     true
-}
-
-// Hands all lines of a history to a journal, with a flush behind each, and says how many it took.
-fn hand_all<J: Journal>(kept: &mut J, history: &History) -> usize {
-    let mut taken = 0usize;
-    for at in 0..history.len() {
-        if hand(kept, &history.line(at)) {
-            taken = taken.saturating_add(1);
-        }
-        kept.flush();
-    }
-    taken
-}
-
-// Hands one line to a journal so many times, with no flush, and says how often it took it.
-fn hand_often<J: Journal>(kept: &mut J, line: &Line, times: usize) -> usize {
-    let mut taken = 0usize;
-    for _ in 0..times {
-        if hand(kept, line) {
-            taken = taken.saturating_add(1);
-        }
-    }
-    taken
 }

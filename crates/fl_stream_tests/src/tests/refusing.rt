@@ -1,22 +1,24 @@
-//! Streams that take no line once a write failed, until one succeeds.
+//! Streams over writers whose first writes fail, or that can't hand on what was written.
 
 ghost use Rattle.std.specs.Prelude.{◌≡◌, [], Some};
 ghost use Rattle.fl_stream.specs.Streams.{IsBlank};
 
-use super::{Course, count_is, course_is, finished, first_line, hand, streamed_often};
+use super::storing::stored;
+use super::{Course, LINES, TRACE, count_is, course_is, first_line, hand, history_of, holds};
 use fl_history::{Journal, Line};
 use fl_stream::{Streamed, WhenWriterFails};
-use fl_testing::{Sink, Trouble};
 use std::alloc::Global;
 use std::io;
 use std::io::{ErrorKind, Write};
 use std::process::Abort;
 
-// Fails at its first writes, so many, and keeps what is written later.
+// Fails at its first writes, so many, and keeps what is written later. It fails at one flush behind so many.
 #[derive(Drop)]
 struct Late {
     held: Vec<u8>,
     failures: usize,
+    flushes: usize,
+    fails_at: usize,
 }
 
 impl Write for Late {
@@ -31,7 +33,23 @@ impl Write for Late {
     }
 
     fn flush(&mut self) -> io::Result<()> {
+        let flushes = self.flushes;
+        self.flushes = flushes.saturating_add(1);
+        if flushes == self.fails_at {
+            return Err(io::Error::from(ErrorKind::Other));
+        }
         Ok(())
+    }
+}
+
+fn writer_that_fails(alloc: Global, failures: usize, fails_at: usize) -> Late
+    ensures { result.held.items ≡ [] }
+{
+    Late {
+        held: Vec::new(alloc),
+        failures,
+        flushes: 0,
+        fails_at,
     }
 }
 
@@ -73,110 +91,60 @@ fn goes(
     wanted: [bool; 6],
     lines: usize,
 ) {
-    let writer = Late {
-        held: Vec::new(alloc),
-        failures,
-    };
+    let writer = writer_that_fails(alloc, failures, usize::MAX);
     let (rounds, writer) = went(rt, writer, manner, alloc);
     assert_eq!(rt; rounds, wanted);
     count_is(rt, writer.held.len(), lines.saturating_mul(43));
 }
 
-// A line that couldn't be stored is stored by the write before the next line is taken.
+const YES: bool = true;
+
+const NO: bool = false;
+
+// What comes of three rounds over writers that fail so often, and how many lines are written then. A line that couldn't
+// be stored is stored by the write before the next line is taken; other streams take all lines.
+const ROUNDS: [(WhenWriterFails, usize, [bool; 6], usize); 9] = [
+    (
+        WhenWriterFails::Refuse,
+        0,
+        [YES, YES, YES, YES, YES, YES],
+        3,
+    ),
+    (WhenWriterFails::Refuse, 1, [YES, NO, YES, YES, YES, YES], 3),
+    (WhenWriterFails::Refuse, 2, [YES, NO, NO, YES, YES, YES], 2),
+    (WhenWriterFails::Refuse, 3, [YES, NO, NO, NO, YES, YES], 2),
+    (WhenWriterFails::Refuse, 4, [YES, NO, NO, NO, NO, YES], 1),
+    (WhenWriterFails::Refuse, 9, [YES, NO, NO, NO, NO, NO], 0),
+    (WhenWriterFails::End, 2, [YES, NO, YES, NO, YES, YES], 3),
+    (WhenWriterFails::GoOn, 0, [YES, YES, YES, YES, YES, YES], 0),
+    (WhenWriterFails::GoOn, 9, [YES, YES, YES, YES, YES, YES], 0),
+];
+
 #[test]
 fn no_line_is_taken_between_a_write_that_failed_and_one_that_succeeds(rt: HostRuntime) {
-    let alloc = rt.alloc();
-    let refuse = WhenWriterFails::Refuse;
-    goes(
-        &rt,
-        alloc,
-        refuse,
-        0,
-        [true, true, true, true, true, true],
-        3,
-    );
-    goes(
-        &rt,
-        alloc,
-        refuse,
-        1,
-        [true, false, true, true, true, true],
-        3,
-    );
-    goes(
-        &rt,
-        alloc,
-        refuse,
-        2,
-        [true, false, false, true, true, true],
-        2,
-    );
-    goes(
-        &rt,
-        alloc,
-        refuse,
-        3,
-        [true, false, false, false, true, true],
-        2,
-    );
-    goes(
-        &rt,
-        alloc,
-        refuse,
-        4,
-        [true, false, false, false, false, true],
-        1,
-    );
-    goes(
-        &rt,
-        alloc,
-        refuse,
-        9,
-        [true, false, false, false, false, false],
-        0,
-    );
+    for (manner, failures, wanted, lines) in ROUNDS.iter() {
+        goes(&rt, rt.alloc(), *manner, *failures, *wanted, *lines);
+    }
 }
 
+// What was written isn't stored if the writer couldn't hand it on.
 #[test]
-fn other_streams_take_all_lines(rt: HostRuntime) {
+fn a_writer_is_flushed_behind_each_write(rt: HostRuntime) {
     let alloc = rt.alloc();
-    let (end, go_on) = (WhenWriterFails::End, WhenWriterFails::GoOn);
-    goes(
+    let history = history_of(&rt, alloc, TRACE);
+    let (course, writer) = stored(
         &rt,
+        writer_that_fails(alloc, 0, 5),
+        WhenWriterFails::End,
+        &history,
         alloc,
-        end,
-        2,
-        [true, false, true, false, true, true],
-        3,
     );
-    goes(
-        &rt,
-        alloc,
-        go_on,
-        0,
-        [true, true, true, true, true, true],
-        0,
-    );
-    goes(
-        &rt,
-        alloc,
-        go_on,
-        9,
-        [true, true, true, true, true, true],
-        0,
-    );
-}
-
-// So many lines are taken before the first write.
-#[test]
-fn nothing_is_written_before_it_is_stored(rt: HostRuntime) {
-    let sink = Sink::new(rt.alloc(), usize::MAX, Trouble::none());
-    let (course, sink) = streamed_often(&rt, sink, WhenWriterFails::Refuse, 2_048, rt.alloc());
     let wanted = Course {
-        taken: 2_048,
-        flushed: true,
+        count: 1,
+        written: true,
         broken: false,
     };
     course_is(&rt, &course, &wanted);
-    count_is(&rt, sink.writes, 1);
+    holds(&rt, &writer.held, TRACE.as_bytes());
+    count_is(&rt, writer.flushes, LINES + 2);
 }
