@@ -1,5 +1,5 @@
--- Messages and replies as numbers, the lowest byte of each first, laid out as by `fuse.h` (protocol 7.31).
-use Rattle.std.specs.Prelude.{ℕ, ◌+◌, ◌*◌, ◌/◌, ◌%◌, ◌^◌, List, [], ◌∷◌}
+-- Messages as numbers, the lowest byte of each first, laid out as by `fuse.h` (protocol 7.31).
+use Rattle.std.specs.Prelude.{ℕ, ◌+◌, ◌*◌, ◌^◌, List, [], ◌∷◌}
 use Rattle.std.specs.Int.{w64, to_le_bytes}
 use Rattle.std.specs.List.{flat_map}
 
@@ -14,7 +14,3 @@ longs numbers = flat_map (to_le_bytes w64) numbers
 -- struct fuse_in_header: len and opcode, unique, nodeid, uid and gid, pid and padding, of which the last four are 0
 abbrev pub header : ℕ → ℕ → ℕ → ℕ → List ℕ
 header len opcode unique node = pair len opcode ∷ unique ∷ node ∷ 0 ∷ 0 ∷ []
-
--- a name of two letters for each number below 256, and its zero byte
-abbrev pub letters : ℕ → List ℕ
-letters name = (97 + name / 16 % 16) ∷ (97 + name % 16) ∷ 0 ∷ []

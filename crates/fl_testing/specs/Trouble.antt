@@ -1,4 +1,4 @@
--- Which calls of a reader or a writer fail.
+-- Which calls of a writer fail.
 use Rattle.std.specs.Prelude.{◌≡◌, ◌≤◌, ℕ, true}
 use Rattle.fl_testing.specs.declared.trouble.Trouble.{Trouble}
 

@@ -1,7 +1,7 @@
 //! Messages that are laid out from their fields. The layouts are those of `fuse.h` (protocol 7.31).
 
 ghost use Rattle.std.specs.Prelude.{◌≡◌, ◌++◌, ◌∷◌, [], IfOk, OnOk};
-ghost use Rattle.fl_testing.specs.Messages.{header, letters, longs, pair};
+ghost use Rattle.fl_testing.specs.Messages.{header, longs, pair};
 
 use std::alloc::{AllocError, Global};
 
@@ -56,25 +56,7 @@ impl Messages {
         Ok(())
     }
 
-    // Adds a name of two letters for each number below 256, and its zero byte.
-    fn name(&mut self, name: u64) -> Result<(), AllocError>
-        ensures { OnOk result (self.new.bytes.items ≡ self.old.bytes.items ++ letters name) }
-    {
-        let first = b'a' + (name / 16 % 16) as u8;
-        let second = b'a' + (name % 16) as u8;
-        push(&mut self.bytes, &[first, second, 0])
-    }
-
-    /// LOOKUP in the root. Its uid, gid, pid and padding are 0, as those of the others.
-    pub fn lookup(&mut self, unique: u64, name: u64) -> Result<(), AllocError>
-        ensures { OnOk result
-            (self.new.bytes.items ≡ self.old.bytes.items ++ longs (header 43 1 unique 1) ++ letters name) }
-    {
-        self.longs(&[pair(43, 1), unique, 1, 0, 0])?;
-        self.name(name)
-    }
-
-    /// LOOKUP in the root, of a name of 15 letters `a` that no file has. Its message is as long as that of a GETATTR.
+    /// LOOKUP in the root, of a name of 15 letters `a` that no file has. Its uid, gid, pid and padding are 0.
     pub fn seek(&mut self, unique: u64) -> Result<(), AllocError>
         ensures { OnOk result (self.new.bytes.items
             ≡ self.old.bytes.items ++ longs (header 56 1 unique 1 ++ 7016996765293437281 ∷ 27410143614427489 ∷ [])) }
