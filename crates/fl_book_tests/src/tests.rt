@@ -7,7 +7,8 @@ use fl_book::{
     Desk, History, Line, Rules, TraceFault, Verdict, check, first_line, has_text, laws,
     print_trace, quiet, read_trace,
 };
-use fl_core::Tolds;
+use fl_core::{Core, Tolds};
+use fl_ranges::{Class, Key, Kind, Range};
 use fl_trace::laws::{a_text_breaks_at_one_line_at_most, no_text_is_that_of_two_histories};
 use std::alloc::Global;
 use std::process::Abort;
@@ -204,4 +205,66 @@ fn traces_are_judged(rt: HostRuntime) {
         Verdict::Differs(7),
         true,
     );
+}
+
+// Owner 7 has the first file and waits for the second one, which owner 8 has.
+const WAITS: &str = "\
+ask 0 1 1 0 0 0 create 0 420 61
+tell 1 made 2 33188 1 0 0 1
+ask 0 2 1 0 0 0 create 0 420 62
+tell 2 made 3 33188 1 0 0 2
+ask 0 3 2 0 0 0 setlk 1 7 0 0 1 11 0
+tell 3 ok
+ask 0 4 3 0 0 0 setlk 2 8 0 0 1 12 0
+tell 4 ok
+ask 0 5 3 0 0 0 setlkw 2 7 0 0 1 11 0
+";
+
+// A core, and room for the replies to an order.
+#[derive(Drop)]
+struct Directory {
+    core: Core,
+    tolds: Tolds,
+    ghost room: { HasRoom core.rules tolds },
+}
+
+impl Directory {
+    fn new(rt: &impl Abort, alloc: Global) -> Directory {
+        Directory {
+            core: Core::new(alloc, Rules::standard()).expect(rt, "memory"),
+            tolds: Tolds::new(alloc, Rules::standard()).expect(rt, "memory"),
+        }
+    }
+
+    // It takes the order of a line, if that is one.
+    fn take(&mut self, line: &Line) {
+        if let Line::Asked { worker: _, order } = line {
+            self.core.step(order, &mut self.tolds);
+        }
+    }
+
+    // Whether the owner's request for byte 0 of the node would close a circle.
+    fn closes(&self, class: Class, owner: u64, node: u64) -> bool {
+        let key = Key { class, node, owner };
+        self.core
+            .circle(&key, &Range { start: 0, end: 0 }, Kind::Write)
+    }
+}
+
+// Only a record lock of the first file does, and only for owner 8.
+fn circles_are_told(rt: &impl Abort, directory: &Directory) {
+    assert!(rt; directory.closes(Class::Record, 8, 2));
+    assert!(rt; !directory.closes(Class::Flock, 8, 2));
+    assert!(rt; !directory.closes(Class::Record, 9, 2));
+    assert!(rt; !directory.closes(Class::Record, 8, 4));
+}
+
+#[test]
+fn a_circle_is_told(rt: HostRuntime) {
+    let trace = read(&rt, rt.alloc(), WAITS);
+    let mut directory = Directory::new(&rt, rt.alloc());
+    for at in 0..trace.len() {
+        directory.take(&trace.line(at));
+    }
+    circles_are_told(&rt, &directory);
 }

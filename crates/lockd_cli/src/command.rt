@@ -11,34 +11,33 @@ use std::alloc::Global;
 struct Usage {
     name: &'static str,
     about: &'static str,
-    // Its own options. Those of `common` come behind them.
-    own: &'static [Choice],
-    common: &'static [Choice],
+    // Its own arguments. Those of `common` come behind them.
+    own: &'static [Argument],
+    common: &'static [Argument],
 }
 
-// An option, or the word that a command wants.
-struct Choice {
+// An option or a positional argument.
+struct Argument {
     name: &'static str,
     help: &'static str,
-    takes: Takes,
-    // It is said without these.
-    without: &'static [&'static str],
+    kind: Kind,
+    // It can't be given together with these.
+    conflicts_with: &'static [&'static str],
 }
 
-// What stands behind an option.
-enum Takes {
-    // Nothing, and it has a letter too, if this is one.
-    Nothing(Option<char>),
-    // A number from 1 on.
-    UpTo(i64),
-    // A number from 0 on.
+enum Kind {
+    // An option without a value, which may have a letter.
+    Flag(Option<char>),
+    // An option with a number from 1 to this one.
+    FromOneTo(i64),
+    // An option with a number from 0 on.
     Number,
-    // A text that isn't empty, which has this name in the help.
+    // An option with a text that isn't empty, which has this name in the help.
     Text(&'static str),
-    // One of these words.
-    Word(&'static [&'static str]),
-    // It is no option: the command wants a word.
-    Itself,
+    // An option with one of these words.
+    OneOf(&'static [&'static str]),
+    // It is required, and no option.
+    Positional,
 }
 
 const COMMANDS: &[Usage] = &[
@@ -80,118 +79,118 @@ const COMMANDS: &[Usage] = &[
     },
 ];
 
-const CHECK: &[Choice] = &[
-    Choice {
+const CHECK: &[Argument] = &[
+    Argument {
         name: "quiet",
         help: "Prints after legal whether the trace is quiet: no owner asks for a record lock while it waits for one",
-        takes: Takes::Nothing(None),
-        without: &[],
+        kind: Kind::Flag(None),
+        conflicts_with: &[],
     },
-    Choice {
+    Argument {
         name: "cut",
         help: "Takes the trace of a killed server: drops what follows the last newline, and prints begins, with status 0, where only replies are missing at the end; --quiet prints nothing after begins",
-        takes: Takes::Nothing(None),
-        without: &[],
+        kind: Kind::Flag(None),
+        conflicts_with: &[],
     },
 ];
 
-const LOCKS: &[Choice] = &[
-    Choice {
+const LOCKS: &[Argument] = &[
+    Argument {
         name: "at",
         help: "Lists them after the first N lines; after all, if not said",
-        takes: Takes::Number,
-        without: &[],
+        kind: Kind::Number,
+        conflicts_with: &[],
     },
-    Choice {
+    Argument {
         name: "file",
         help: "Lists those of the file that has this name alone",
-        takes: Takes::Text("NAME"),
-        without: &[],
+        kind: Kind::Text("NAME"),
+        conflicts_with: &[],
     },
-    Choice {
+    Argument {
         name: "json",
         help: "Prints one line of JSON and no table",
-        takes: Takes::Nothing(None),
-        without: &[],
+        kind: Kind::Flag(None),
+        conflicts_with: &[],
     },
 ];
 
-const SERVE: &[Choice] = &[
+const SERVE: &[Argument] = &[
     SOCKET,
-    Choice {
+    Argument {
         name: "workers",
         help: "How many workers take orders, 1 to 16; 4, if not said",
-        takes: Takes::UpTo(MOST_WORKERS as i64),
-        without: &[],
+        kind: Kind::FromOneTo(MOST_WORKERS as i64),
+        conflicts_with: &[],
     },
-    Choice {
+    Argument {
         name: "trace",
         help: "Writes the trace to a new file as orders come, or keeps none; else it is printed at the end, and memory grows until then",
-        takes: Takes::Text("FILE|none"),
-        without: &[],
+        kind: Kind::Text("FILE|none"),
+        conflicts_with: &[],
     },
-    Choice {
+    Argument {
         name: "resume",
         help: "Goes on behind the trace that a server left in this file, which is made if it isn't there; one worker writes each order's lines there before its replies go out",
-        takes: Takes::Text("FILE"),
-        without: &["trace", "workers"],
+        kind: Kind::Text("FILE"),
+        conflicts_with: &["trace", "workers"],
     },
-    // Two words of a new file, and two of one that goes on.
-    Choice {
+    // The first two words go with --trace, and the others with --resume.
+    Argument {
         name: "trace-full",
         help: "What happens while the trace's file can't be written. With --trace FILE orders go on without it, if not said; refuse has replies wait until their lines are in the file, and refuses what can't be taken meanwhile. With --resume FILE clients wait, if not said, or the session ends",
-        takes: Takes::Word(&["go-on", "refuse", "wait", "end"]),
-        without: &[],
+        kind: Kind::OneOf(&["go-on", "refuse", "wait", "end"]),
+        conflicts_with: &[],
     },
 ];
 
-const SOCKET: Choice = Choice {
+const SOCKET: Argument = Argument {
     name: "SOCKET",
     help: "The path of a server's Unix stream socket",
-    takes: Takes::Itself,
-    without: &[],
+    kind: Kind::Positional,
+    conflicts_with: &[],
 };
 
 // The rules by which orders are answered.
-const RULES: &[Choice] = &[
-    Choice {
+const RULES: &[Argument] = &[
+    Argument {
         name: "fair",
         help: "Lets a request for a record lock wait behind an older one that waits and excludes it",
-        takes: Takes::Nothing(None),
-        without: &[],
+        kind: Kind::Flag(None),
+        conflicts_with: &[],
     },
-    Choice {
+    Argument {
         name: "runs",
         help: "How many runs of locked bytes there may be, 1 to 65536; 4096, if not said",
-        takes: Takes::UpTo(MOST_RUNS as i64),
-        without: &[],
+        kind: Kind::FromOneTo(MOST_RUNS as i64),
+        conflicts_with: &[],
     },
-    Choice {
+    Argument {
         name: "parked",
         help: "How many requests may wait, 1 to 1024; 256, if not said",
-        takes: Takes::UpTo(MOST_PARKED as i64),
-        without: &[],
+        kind: Kind::FromOneTo(MOST_PARKED as i64),
+        conflicts_with: &[],
     },
-    Choice {
+    Argument {
         name: "files",
         help: "How many files there may be, 1 to 65536; 256, if not said",
-        takes: Takes::UpTo(MOST_FILES as i64),
-        without: &[],
+        kind: Kind::FromOneTo(MOST_FILES as i64),
+        conflicts_with: &[],
     },
-    Choice {
+    Argument {
         name: "open",
         help: "How many files may be open at once, 1 to 65536; 1024, if not said",
-        takes: Takes::UpTo(MOST_OPEN as i64),
-        without: &[],
+        kind: Kind::FromOneTo(MOST_OPEN as i64),
+        conflicts_with: &[],
     },
     VERBOSE,
 ];
 
-const VERBOSE: Choice = Choice {
+const VERBOSE: Argument = Argument {
     name: "verbose",
     help: "Says more on standard error: behind a fault its reason and what to do, how much was read, and what a server does",
-    takes: Takes::Nothing(Some('v')),
-    without: &[],
+    kind: Kind::Flag(Some('v')),
+    conflicts_with: &[],
 };
 
 /// The whole command line. Options without a command are those of `script`, and none stands before a command.
@@ -201,7 +200,7 @@ pub(crate) fn lockd<'a>(alloc: Global) -> Result<Command<'a>, Error> {
         .version(VERSION)
         .args_conflicts_with_subcommands(true)
         .after_help("Without a command it is script, with its options.");
-    with_commands(alloc, with_choices(alloc, lockd, RULES)?)
+    with_commands(alloc, with_arguments(alloc, lockd, RULES)?)
 }
 
 fn with_commands<'a>(alloc: Global, lockd: Command<'a>) -> Result<Command<'a>, Error> {
@@ -214,50 +213,50 @@ fn with_commands<'a>(alloc: Global, lockd: Command<'a>) -> Result<Command<'a>, E
 
 fn command<'a>(alloc: Global, usage: &Usage) -> Result<Command<'a>, Error> {
     let command = Command::new(alloc, usage.name).about(usage.about);
-    let command = with_choices(alloc, command, usage.own)?;
-    with_choices(alloc, command, usage.common)
+    let command = with_arguments(alloc, command, usage.own)?;
+    with_arguments(alloc, command, usage.common)
 }
 
-fn with_choices<'a>(
+fn with_arguments<'a>(
     alloc: Global,
     command: Command<'a>,
-    choices: &[Choice],
+    arguments: &[Argument],
 ) -> Result<Command<'a>, Error> {
     let mut command = command;
-    for choice in choices.iter() {
-        command = command.arg(arg(alloc, choice)?)?;
+    for argument in arguments.iter() {
+        command = command.arg(arg(alloc, argument)?)?;
     }
     Ok(command)
 }
 
-fn arg<'a>(alloc: Global, choice: &Choice) -> Result<Arg<'a>, Error> {
-    let arg = Arg::new(alloc, choice.name).help(choice.help);
-    let mut arg = taking(arg, choice);
-    for other in choice.without.iter() {
+fn arg<'a>(alloc: Global, argument: &Argument) -> Result<Arg<'a>, Error> {
+    let arg = Arg::new(alloc, argument.name).help(argument.help);
+    let mut arg = of_kind(arg, argument);
+    for other in argument.conflicts_with.iter() {
         arg = arg.conflicts_with(*other)?;
     }
     Ok(arg)
 }
 
-fn taking<'a>(arg: Arg<'a>, choice: &Choice) -> Arg<'a> {
-    match choice.takes {
-        Takes::Itself => arg.required(true).action(ArgAction::Set),
-        Takes::Nothing(letter) => {
-            let arg = arg.long(choice.name).action(ArgAction::SetTrue);
+fn of_kind<'a>(arg: Arg<'a>, argument: &Argument) -> Arg<'a> {
+    match argument.kind {
+        Kind::Positional => arg.required(true).action(ArgAction::Set),
+        Kind::Flag(letter) => {
+            let arg = arg.long(argument.name).action(ArgAction::SetTrue);
             match letter {
                 None => arg,
                 Some(letter) => arg.short(letter),
             }
         }
-        Takes::Number => valued(arg, choice.name, "N").value_parser(clap::value_parser!(u32)),
-        Takes::UpTo(most) => {
+        Kind::Number => valued(arg, argument.name, "N").value_parser(clap::value_parser!(u32)),
+        Kind::FromOneTo(most) => {
             let numbers = clap::value_parser!(u32).range(1..=most);
-            valued(arg, choice.name, "N").value_parser(numbers)
+            valued(arg, argument.name, "N").value_parser(numbers)
         }
-        Takes::Text(name) => {
-            valued(arg, choice.name, name).value_parser(ValueParser::NonEmptyString)
+        Kind::Text(name) => {
+            valued(arg, argument.name, name).value_parser(ValueParser::NonEmptyString)
         }
-        Takes::Word(words) => valued(arg, choice.name, "WORD").value_parser(words),
+        Kind::OneOf(words) => valued(arg, argument.name, "WORD").value_parser(words),
     }
 }
 

@@ -15,22 +15,42 @@ use std::thread;
 use std::thread::{Threads, yield_now};
 use std::time::Duration;
 
-// Holds each order until all of its burst have come. Uniques begin at 2.
+// Holds each order until all of its burst have come, and the first of them until the client has the reply to another.
+// Uniques begin at 2.
 #[derive(Drop)]
 struct Meeting {
     size: u64,
     come: AtomicU64,
+    answered: AtomicU64,
     given_up: AtomicBool,
+}
+
+impl Meeting {
+    // So many orders have come, and so many replies.
+    fn has(&self, come: u64, answered: u64) -> bool {
+        self.come.load(Ordering::SeqCst) >= come && self.answered.load(Ordering::SeqCst) >= answered
+    }
+
+    // How many replies have to come before this order passes, the one at this place behind so many of other bursts.
+    fn wants(&self, place: u64, before: u64) -> u64 {
+        if place == before {
+            before.saturating_add(1)
+        } else {
+            0
+        }
+    }
 }
 
 impl Gate for Meeting {
     fn pass(&self, unique: u64) {
-        let burst = unique.saturating_sub(2).checked_div(self.size).unwrap_or(0);
-        let wanted = burst.saturating_add(1).saturating_mul(self.size);
+        let place = unique.saturating_sub(2);
+        let burst = place.checked_div(self.size).unwrap_or(0);
+        let before = burst.saturating_mul(self.size);
+        let come = before.saturating_add(self.size);
+        let answered = self.wants(place, before);
         self.come.fetch_add(1, Ordering::SeqCst);
         for _ in 0..10_000_000 {
-            let come = self.come.load(Ordering::SeqCst);
-            if come >= wanted || self.given_up.load(Ordering::SeqCst) {
+            if self.has(come, answered) || self.given_up.load(Ordering::SeqCst) {
                 return;
             }
             yield_now();
@@ -65,6 +85,14 @@ fn take(rt: &impl Abort, stream: &UnixStream, times: u32) {
     }
 }
 
+// Waits for the replies to a burst, and says of each that it has come.
+fn take_replies(rt: &impl Abort, stream: &UnixStream, size: u32, gate: &Meeting) {
+    for _ in 0..size {
+        take(rt, stream, 1);
+        gate.answered.fetch_add(1, Ordering::SeqCst);
+    }
+}
+
 fn waits_for_seconds(rt: &impl Abort, stream: &UnixStream) {
     let most = Some(Duration::from_secs(20));
     stream.set_read_timeout(most).expect(rt, "a socket");
@@ -72,7 +100,7 @@ fn waits_for_seconds(rt: &impl Abort, stream: &UnixStream) {
 }
 
 // Sends 100 bursts, each as soon as all replies to the one before have come, so that a worker looks and others sleep.
-fn send_bursts(rt: &impl Abort, alloc: Global, stream: &UnixStream, size: u32) {
+fn send_bursts(rt: &impl Abort, alloc: Global, stream: &UnixStream, size: u32, gate: &Meeting) {
     waits_for_seconds(rt, stream);
     let mut messages = Messages::with_init(alloc).expect(rt, "memory");
     send(rt, stream, &mut messages);
@@ -81,7 +109,7 @@ fn send_bursts(rt: &impl Abort, alloc: Global, stream: &UnixStream, size: u32) {
     for _ in 0..100 {
         fill(rt, &mut messages, from, size);
         send(rt, stream, &mut messages);
-        take(rt, stream, size);
+        take_replies(rt, stream, size, gate);
         from = from.saturating_add(u64::from(size));
     }
     stream.shutdown(Shutdown::Write).expect(rt, "a socket");
@@ -119,7 +147,7 @@ fn session<R: Abort + Threads + Wait + Net + Sync>(
     let (near, far) = UnixStream::pair(rt).expect(rt, "a socket");
     let ((), done) = thread::join(
         rt,
-        move || send_bursts(rt, alloc, &near, workers),
+        move || send_bursts(rt, alloc, &near, workers, gate),
         move || serve_stream(rt, alloc, &far, workers, gate),
     );
     done
@@ -128,6 +156,7 @@ fn session<R: Abort + Threads + Wait + Net + Sync>(
 fn has_met(rt: &impl Abort, done: &Done, gate: &Meeting, workers: u32) {
     assert!(rt; !gate.given_up.load(Ordering::SeqCst));
     fault_is(rt, done.fault, None);
+    assert!(rt; !done.refused);
     let lines = (workers as usize).saturating_mul(200);
     assert_eq!(rt; done.history.len(), lines);
 }
@@ -138,6 +167,7 @@ fn no_order_waits_for_a_worker_while_another_sleeps(rt: HostRuntime) {
         let gate = Meeting {
             size: u64::from(workers),
             come: AtomicU64::new(0),
+            answered: AtomicU64::new(0),
             given_up: AtomicBool::new(false),
         };
         let done = session(&rt, rt.alloc(), workers, &gate);

@@ -1,5 +1,6 @@
 //! Histories whose text is written in pieces.
 
+use super::refusing::writer_that_fails;
 use super::{TRACE, count_is, first_line, history_of, holds};
 use fl_history::{History, Line};
 use fl_stream::{TraceRoom, Unwritten, write_trace};
@@ -91,4 +92,16 @@ fn each_write_of_a_long_history_fails(rt: HostRuntime) {
     let sink = Sink::failing_once(alloc, 2, ErrorKind::Interrupted);
     let writes = goes_out(&rt, &mut room, &history, sink, Ok(()));
     assert!(&rt; writes > 6 && writes < 10);
+}
+
+// All is written, and the writer can't hand it on.
+#[test]
+fn a_history_whose_writer_cannot_be_flushed(rt: HostRuntime) {
+    let alloc = rt.alloc();
+    let history = history_of(&rt, alloc, TRACE);
+    let mut room = TraceRoom::new(alloc).expect(&rt, "memory");
+    let mut writer = writer_that_fails(alloc, 0, 0);
+    let found = write_trace(&mut room, &history, &mut writer);
+    came(&rt, found, Err(Unwritten));
+    holds(&rt, &writer.held, TRACE.as_bytes());
 }

@@ -14,8 +14,8 @@ use std::process::Abort;
 
 // Fails at its first writes, so many, and keeps what is written later. It fails at one flush behind so many.
 #[derive(Drop)]
-struct Late {
-    held: Vec<u8>,
+pub(super) struct Late {
+    pub(super) held: Vec<u8>,
     failures: usize,
     flushes: usize,
     fails_at: usize,
@@ -42,7 +42,7 @@ impl Write for Late {
     }
 }
 
-fn writer_that_fails(alloc: Global, failures: usize, fails_at: usize) -> Late
+pub(super) fn writer_that_fails(alloc: Global, failures: usize, fails_at: usize) -> Late
     ensures { result.held.items ≡ [] }
 {
     Late {
