@@ -2,6 +2,7 @@
 
 A message's layout is that of `fuse.h` (protocol 7.31).
 """
+import contextlib
 import os
 import re
 import resource
@@ -14,6 +15,7 @@ import sys
 import tempfile
 import time
 import weakref
+from concurrent.futures import ThreadPoolExecutor
 
 TOP = os.path.dirname(os.path.dirname(os.path.realpath(__file__)))
 PROGRAM = os.path.realpath(os.environ.get("LOCKD", f"{TOP}/crates/lockd/out/lockd"))
@@ -95,6 +97,12 @@ def is_listening(path):
     with open("/proc/net/unix", "rb") as file:
         rows = [line.split(maxsplit=7) for line in file]
     return any(row[3] == b"00010000" and row[7:] == [os.fsencode(path) + b"\n"] for row in rows)
+
+
+def each(what, rows):
+    """Does it with each row, some at a time. Gives what each gave."""
+    with ThreadPoolExecutor() as pool:
+        return [*pool.map(lambda row: what(*row), rows)]
 
 
 def run(*words, text=b"", **how):
@@ -187,6 +195,17 @@ class Server:
                 if time.monotonic() > last or self.serving.poll() is not None:
                     raise
                 time.sleep(0.01)
+
+    def talk(self, sent, begins=lambda: True):
+        """Sends these bytes as soon as this is so, closes its side, and gives all that comes. A server that leaves some unread may reset the connection."""
+        came = bytearray()
+        with self.connect() as client, contextlib.suppress(ConnectionError):
+            wait_until(begins)
+            client.sendall(sent)
+            client.shutdown(socket.SHUT_WR)
+            while more := client.recv(1 << 16):
+                came += more
+        return bytes(came)
 
     def session(self, count):
         """A session with so many locks and unlocks, 64 at a time. Gives the error numbers of their replies."""

@@ -1,12 +1,11 @@
-"""What `try_sessions` and `try_messages` try with: stored sessions, which `lockd bytes` and `lockd serve --workers 1` take, and a client."""
-import contextlib
+"""What `try_sessions`, `try_messages`, `try_serving` and `try_failing` try with: stored sessions, messages, and what a trace has."""
+import itertools
 import re
-import socket
 import struct
 import sys
 
 sys.dont_write_bytecode = True
-from tries import Server, cases, marked, run, text_of
+from tries import Server, cases, judged, marked, message, run, text_of
 
 INIT, DESTROY = 26, 38
 
@@ -48,21 +47,43 @@ def stored(name):
     return [Session(title, whole(case)) for title, case in found.items() if not title.isupper()]
 
 
-def all_from(client):
-    """What still comes. The end of a server that left bytes unread may be told as a reset."""
-    found = bytearray()
-    with contextlib.suppress(ConnectionResetError):
-        while more := client.recv(1 << 16):
-            found += more
-    return bytes(found)
+SESSIONS = stored("sessions")
+WORKED = next(it for it in SESSIONS if it.title == "two locks")
+# Its messages and replies, and behind how many bytes each of them ends.
+STREAM, ANSWERS = WORKED.stream, b"".join(WORKED.replies)
+ENDS, ANSWERED = ([0, *itertools.accumulate(map(len, it))] for it in (WORKED.messages, WORKED.replies))
 
 
-def talk(server, stream):
-    """What comes back to a client that sends these bytes at once, and no more."""
-    with server.connect() as client:
-        client.sendall(stream)
-        client.shutdown(socket.SHUT_WR)
-        return all_from(client)
+def whole_in(size):
+    """How many of its messages are whole among so many bytes."""
+    return sum(end <= size for end in ENDS[1:])
+
+
+def lookup(unique, name=b"none"):
+    return message(1, unique, 1, name + b"\0")
+
+
+def lookups(count):
+    return b"".join(map(lookup, range(2, 2 + count)))
+
+
+def forget_each(unique, *nodes):
+    """A BATCH_FORGET of one lookup of each."""
+    return message(42, unique, 0, struct.pack("<II", len(nodes), 0) + b"".join(struct.pack("<QQ", it, 1) for it in nodes))
+
+
+def errors_in(trace):
+    """The uniques and errors of the replies, as they stand there."""
+    return [(int(unique), int(error or 0)) for unique, error in re.findall(r"^tell (\d+) (?:err (\d+))?", trace, re.M)]
+
+
+def traced_by(ended, lines=None, told=""):
+    """The trace of a server that ended with this on standard error. It is legal, and has so many lines."""
+    printed, *ending = ended
+    assert ending == [told, 2 if told else 0], (ending, told)
+    assert judged(printed) == "legal\n", judged(printed)
+    assert lines in (None, printed.count(b"\n")), (printed.count(b"\n"), lines)
+    return printed.decode()
 
 
 def is_served(session):
@@ -77,7 +98,7 @@ def is_served(session):
 
 
 def serves(session, server, is_printed=False):
-    came = talk(server, session.stream)
+    came = server.talk(session.stream)
     assert came == b"".join(session.replies), (session.title, came.hex())
     printed, *ended = server.ended()
     assert ended == ["", 0], (session.title, ended)

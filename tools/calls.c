@@ -1,0 +1,116 @@
+// Preloaded to a program: counts its calls of some kinds, makes them move fewer bytes, fails some, and notes them. The variable that has
+// the name of a kind (recv, send, read, write, allocate) begins with the most bytes that a call moves, or 0 for any number. Behind it
+// may stand the number of the first call that fails, from 1, that of the last one, and their error, or 0 if they move no byte. A kind
+// without a variable isn't counted. The file that NOTES names gets a line for each call that counts: its kind, and how many bytes it
+// moved, or minus its error. A read of a socket at which nothing waits never counts, nor does what goes to standard error.
+#define _GNU_SOURCE
+#include <errno.h>
+#include <fcntl.h>
+#include <stdio.h>
+#include <stdlib.h>
+#include <sys/socket.h>
+#include <sys/syscall.h>
+#include <unistd.h>
+
+void *__libc_malloc(size_t size);
+void *__libc_realloc(void *old, size_t size);
+
+struct calls {
+    const char *name;
+    int counts;
+    size_t most;
+    unsigned long made, first, last;
+    int error;
+};
+
+enum kind { RECV, SEND, READ, WRITE, ALLOCATE, KINDS };
+
+static struct calls calls[KINDS] = {{.name = "recv"}, {.name = "send"}, {.name = "read"}, {.name = "write"}, {.name = "allocate"}};
+static int notes = -1;
+
+__attribute__((constructor)) static void begin(void)
+{
+    const char *path = getenv("NOTES");
+    if (path)
+        notes = open(path, O_WRONLY | O_CREAT | O_APPEND | O_CLOEXEC, 0600);
+    for (struct calls *it = calls; it < calls + KINDS; it++) {
+        const char *text = getenv(it->name);
+        it->counts = text && sscanf(text, "%zu %lu %lu %d", &it->most, &it->first, &it->last, &it->error) > 0;
+    }
+}
+
+// Counts a call, and says whether it fails.
+static int fails(struct calls *of)
+{
+    unsigned long number = __atomic_add_fetch(&of->made, 1, __ATOMIC_SEQ_CST);
+    return of->first <= number && number <= of->last;
+}
+
+// No file of the C library is used here, since that takes memory.
+static void note(const struct calls *of, ssize_t moved)
+{
+    char line[40];
+    int length = sprintf(line, "%s %zd\n", of->name, moved);
+    if (notes >= 0)
+        (void)!syscall(SYS_write, notes, line, (size_t)length);
+}
+
+static ssize_t move(enum kind kind, long call, int fd, void *bytes, size_t count, int flags)
+{
+    struct calls *of = &calls[kind];
+    if (!of->counts || fd == STDERR_FILENO)
+        return syscall(call, fd, bytes, count, flags, NULL, NULL);
+    ssize_t moved = of->error ? -1 : 0;
+    if (fails(of))
+        errno = of->error;
+    else
+        moved = syscall(call, fd, bytes, of->most && of->most < count ? of->most : count, flags, NULL, NULL);
+    int error = errno;
+    note(of, moved < 0 ? -error : moved);
+    errno = error;
+    return moved;
+}
+
+ssize_t recv(int fd, void *to, size_t room, int flags)
+{
+    char first;
+    if (syscall(SYS_recvfrom, fd, &first, (size_t)1, flags | MSG_PEEK, NULL, NULL) < 0)
+        return -1;
+    return move(RECV, SYS_recvfrom, fd, to, room, flags);
+}
+
+ssize_t send(int fd, const void *bytes, size_t count, int flags)
+{
+    return move(SEND, SYS_sendto, fd, (void *)bytes, count, flags);
+}
+
+ssize_t read(int fd, void *to, size_t room)
+{
+    return move(READ, SYS_read, fd, to, room, 0);
+}
+
+ssize_t write(int fd, const void *bytes, size_t count)
+{
+    return move(WRITE, SYS_write, fd, (void *)bytes, count, 0);
+}
+
+// Whether an allocation fails.
+static int is_refused(size_t size)
+{
+    struct calls *of = &calls[ALLOCATE];
+    if (!of->counts)
+        return 0;
+    int refused = fails(of);
+    note(of, refused ? -ENOMEM : (ssize_t)size);
+    return refused;
+}
+
+void *malloc(size_t size)
+{
+    return is_refused(size) ? NULL : __libc_malloc(size);
+}
+
+void *realloc(void *old, size_t size)
+{
+    return is_refused(size) ? NULL : __libc_realloc(old, size);
+}
