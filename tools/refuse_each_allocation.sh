@@ -1,8 +1,8 @@
 #!/bin/sh
-# Runs `lockd script`, `lockd check` and `lockd bytes` on stored examples, and on scripts of the tests in which requests wait,
-# and `lockd locks` on a trace with locks and requests that wait, once for each of their allocations, and refuses that one. Each run must end with status 2, `no memory` on standard error and
-# nothing on standard output, or else print all that
-# it prints otherwise. A session may refuse an order in place of that. It then answers ENOMEM, or EAGAIN where the order
+# Runs `lockd script`, `lockd check` and `lockd bytes` on stored examples, and on worked scripts in which requests wait,
+# and `lockd locks` on a trace with locks and requests that wait, once for each of their allocations, and refuses that
+# one. Each run must end with status 2, `no memory` on standard error and nothing on standard output, or else print all
+# that it prints otherwise. A session may refuse an order in place of that. It then answers ENOMEM, or EAGAIN where the order
 # is an INTERRUPT, or nothing where it is a FORGET, and goes on as if the order had never come. Wants a C compiler and
 # the GNU C library. In the same way it runs a test of `fl_stream_tests` that reads and prints a trace in memory, whose program the tests leave.
 set -eu
@@ -142,9 +142,9 @@ refuse_script() {
     refuse_each check "$work/trace" "check, $2"
 }
 
-# The trace that stands behind this title among the scripts of the tests.
+# The trace that stands behind this title among the worked scripts.
 worked() {
-    awk -v title="# $1" '$0 == title { taken = 1; next } /^[#"]/ { taken = 0 } taken' tools/cases/scripts.txt
+    awk -v title="# $1" '$0 == title { taken = 1; next } /^#/ { taken = 0 } taken' tools/cases/scripts.txt
 }
 
 for example in a_lock_is_waited_for a_file_lives_while_it_is_open; do

@@ -88,7 +88,8 @@ def marked(case, mark):
 
 def wait_until(is_so):
     last = time.monotonic() + PATIENCE
-    while not is_so() and time.monotonic() < last:
+    while not is_so():
+        assert time.monotonic() < last, f"waited {PATIENCE} seconds"
         time.sleep(0.01)
 
 
@@ -101,7 +102,7 @@ def is_listening(path):
 
 def each(what, rows):
     """Does it with each row, some at a time. Gives what each gave."""
-    with ThreadPoolExecutor() as pool:
+    with ThreadPoolExecutor(4) as pool:
         return [*pool.map(lambda row: what(*row), rows)]
 
 

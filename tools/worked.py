@@ -26,7 +26,9 @@ def trace_of(case):
 
 def stored():
     """The title of each stored script, its trace, and whether that is quiet."""
-    return [(title, trace_of(case), "not quiet" not in case) for title, case in cases(text_of("tools/cases/scripts.txt"))]
+    found = [(title, trace_of(case), "not quiet" not in case) for title, case in cases(text_of("tools/cases/scripts.txt"))]
+    assert len(found) == 28, len(found)
+    return found
 
 
 def limits():
