@@ -382,10 +382,9 @@ fn merged<L: BoardName>(seats: Vec<Seat<L>>) -> Option<Share<L>>
     ensures amount { IfSome result (λ all. all.amount ≡ sum_by (λ seat. seat.count) seats.items) }
 {
     let mut seats = seats;
-    let Seat { share, .. } = seats.pop()?;
-    let mut all = share;
+    let mut all = seats.pop()?.into_share();
     while let Some(seat) = seats.pop() {
-        let Seat { share, .. } = seat;
+        let share = seat.into_share();
         all.merge(share);
     }
     Some(all)

@@ -18,7 +18,6 @@ use std::sync::ledger::Share;
 
 /// A worker's place at a board. Contracts see it as its worker, how many orders were handed in through it, the
 /// history up to the last of these, and the longest history that was shown through it.
-#[derive(Drop)]
 pub struct Seat<L: BoardName> {
     pub(crate) worker: u32,
     pub(crate) share: Share<L>,
@@ -46,12 +45,40 @@ impl<L: BoardName> Model for Seat<L> {
         × (s.share.amount ≤ length (answered_by s.worker (history_of L.rules s.own))) };
 }
 
+impl<L: BoardName> Drop for Seat<L> {
+    // One call for an owner, and not a step for each part.
+    fn drop(self) {
+        let Seat {
+            worker: _worker,
+            share: _share,
+            reader: _reader,
+            own: _own,
+            seen: _seen,
+        } = self;
+    }
+}
+
 impl<L: BoardName> Seat<L> {
     /// Its worker, from 0.
     pub fn worker(&self) -> u32
         ensures { result ≡ self.now.worker }
     {
         self.worker
+    }
+
+    // Its part of the ledger.
+    pub(crate) fn into_share(self) -> Share<L>
+        ensures parts { result.parts ≡ 1 }
+        ensures amount { result.amount ≡ self.count }
+    {
+        let Seat {
+            worker: _worker,
+            share,
+            reader: _reader,
+            own: _own,
+            seen: _seen,
+        } = self;
+        share
     }
 
     /// What an order that only reads, GETLK or GETATTR, is answered after some beginning of the history, which the

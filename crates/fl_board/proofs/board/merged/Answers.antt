@@ -1,4 +1,4 @@
-use Rattle.std.proofs.Common.{ap, arith}
+use Rattle.std.proofs.Common.{arith}
 use Rattle.fl_board.specs.Seats.{Place}
 use Rattle.fl_board.proofs.Counts.{one_popped}
 use Rattle.fl_board.proofs.board.merged.Goals as goal
@@ -7,7 +7,7 @@ pub loop-seat-preserved : goal.loop-seat-preserved
 loop-seat-preserved g c =
     let i = c.loop-seat.invariant in
     let popped = one_popped (λ (s : Place). s.count) _ _ _ c.in-Some.seat c.pop-in-loop-seat.ensures.items c.in-Some.is in (
-      omega (arith, i.0, popped.0, c.merge.ensures.parts, c.seat.invariant.0),
-      omega (arith, i.1, popped.1, c.merge.ensures.amount, ap (λ (p : Place). p.count) c.seat.view_is),
+      omega (arith, i.0, popped.0, c.merge.ensures.parts, c.into_share-share.ensures.parts),
+      omega (arith, i.1, popped.1, c.merge.ensures.amount, c.into_share-share.ensures.amount),
       c.merge.ensures.apart,
     )
