@@ -10,10 +10,10 @@ ghost use Rattle.lockd_faults.specs.declared.fault.CommandFault.{CommandFault};
 ghost use Rattle.lockd_serve.specs.Behind.{EndsBehind};
 ghost use Rattle.lockd_serve.specs.Ending.{Ends, EndsUntraced, Prints, Traces, has_history, told_of};
 
-use crate::observer::{Observer, Untraced};
 use fl_serve::{Done, Fault, Recorded};
 use fl_stream::{Streamed, TraceRoom};
 use lockd_faults::{CommandFault, Status, end, print, tell};
+use lockd_streams::{Observer, Untraced};
 use std::io;
 use std::io::Write;
 

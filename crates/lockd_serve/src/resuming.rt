@@ -11,18 +11,17 @@ ghost use Rattle.lockd_serve.specs.Ending.{Ending};
 ghost use Rattle.lockd_serve.specs.Inside.{DiffersBy, told_of_reading};
 
 use crate::ending::{end_resumed, end_unheard, end_unopened};
-use crate::observer::{Observer, Untraced};
-use crate::retrying::{Retrying, Telling, WhenUnwritten};
 use crate::serving::hang_up;
-use crate::socket::{OldSocket, connection};
-use crate::spinning::{Patient, Spinning};
-use crate::trace_file::is_at;
 use fl_core::Rules;
 use fl_desk::Verdict;
 use fl_history::Recent;
 use fl_judge::{AuditFault, Heard, Judge, Resumed, hear_cut};
 use fl_resume::resume;
 use lockd_faults::{CommandFault, Noting, Status, end};
+use lockd_streams::{
+    Observer, OldSocket, Patient, Retrying, Spinning, Telling, Untraced, WhenUnwritten, connection,
+    is_at,
+};
 use std::alloc::Global;
 use std::fs::{File, Files, OpenFile, TryLockError};
 use std::io;

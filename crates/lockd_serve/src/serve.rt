@@ -10,12 +10,10 @@ ghost use Rattle.lockd_serve.specs.declared.options.TraceTo.{TraceTo};
 ghost use Rattle.lockd_serve.specs.Unserved.{LeavesNothing, ServesNobody};
 
 use crate::ending::end_unheard;
-use crate::observer::Observer;
 use crate::options::ServeOptions;
 use crate::serving::serve_stream;
-use crate::socket::{OldSocket, connection};
-use crate::spinning::{Patient, Spinning};
 use lockd_faults::{Noting, Status};
+use lockd_streams::{Observer, OldSocket, Patient, Spinning, connection};
 use std::alloc::Global;
 use std::fs::Files;
 use std::io::Write;

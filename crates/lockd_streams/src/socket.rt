@@ -2,7 +2,7 @@
 
 ghost use Rattle.std.specs.Prelude.{◌≡◌, ◌↔◌, [], IsErr, IsTrue};
 ghost use Rattle.std.specs.Path.{path_bytes};
-ghost use Rattle.lockd_serve.specs.Inside.{IsSameSocket};
+ghost use Rattle.lockd_streams.specs.Inside.{IsSameSocket};
 
 use crate::observer::Observer;
 use lockd_faults::{read_all, split_line};
@@ -17,7 +17,7 @@ use std::{fs, io};
 
 /// What is done with a socket's file that stands at the path of a server.
 #[derive(Clone, Copy, PartialEq, Eq)]
-pub(crate) enum OldSocket {
+pub enum OldSocket {
     /// It stays, and the server doesn't listen.
     Keep,
     /// It is replaced, if nobody listens at it any more.
@@ -26,7 +26,7 @@ pub(crate) enum OldSocket {
 
 /// The first connection at a path, whose file is then taken away. A socket with no path has no file, and nobody finds
 /// it. The observer is told when it listens, and when the connection is there.
-pub(crate) fn connection<R: Net + Files, O: Observer>(
+pub fn connection<R: Net + Files, O: Observer>(
     rt: &R,
     alloc: Global,
     path: Path<'_>,

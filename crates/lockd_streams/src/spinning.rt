@@ -3,7 +3,7 @@
 ghost use Rattle.std.specs.Prelude.{◌≡◌, ◌↔◌, IfSome, IsTrue, MatchOption};
 ghost use Rattle.std.specs.Io.{ReadsAtMost};
 ghost use Rattle.std.specs.Io.KnownBytes.{Keeps, ReadConsumes};
-ghost use Rattle.lockd_serve.specs.Inside.{WouldWait};
+ghost use Rattle.lockd_streams.specs.Inside.{WouldWait};
 
 use crate::observer::Parting;
 use std::io;
@@ -25,7 +25,7 @@ const WRITES: u32 = 1000;
 /// that found nothing the next 64 reads come without one. So a slow client costs little, and one that is silent
 /// nothing. While it spins the socket doesn't wait, so others write to it by a `Patient` alone.
 #[derive(Drop)]
-pub(crate) struct Spinning<'a, R> {
+pub struct Spinning<'a, R> {
     stream: R,
     // What `stream` reads from. Contracts see that the stream is read, whatever this is.
     socket: &'a UnixStream,
@@ -37,7 +37,7 @@ pub(crate) struct Spinning<'a, R> {
 
 impl<'a, R: Read> Spinning<'a, R> {
     /// Over a stream that reads from this socket.
-    pub(crate) fn new(stream: R, socket: &'a UnixStream) -> Spinning<'a, R>
+    pub fn new(stream: R, socket: &'a UnixStream) -> Spinning<'a, R>
         ensures { result.stream ≡ stream }
     {
         Spinning {
@@ -49,7 +49,7 @@ impl<'a, R: Read> Spinning<'a, R> {
     }
 
     /// What the last read said of the client.
-    pub(crate) fn client(&self) -> Parting {
+    pub fn client(&self) -> Parting {
         self.client
     }
 
@@ -93,7 +93,7 @@ impl<R: Read> Read for Spinning<'_, R> {
 /// Writes to a socket at which another thread may spin. If the socket is full and doesn't wait, it is made to wait
 /// again, and the write is tried anew. The spin then ends with a read that sleeps.
 #[derive(Drop)]
-pub(crate) struct Patient<'a, W> {
+pub struct Patient<'a, W> {
     stream: W,
     // What `stream` writes to. Contracts see that the stream is written to, whatever this is.
     socket: &'a UnixStream,
@@ -101,7 +101,7 @@ pub(crate) struct Patient<'a, W> {
 
 impl<'a, W: Write> Patient<'a, W> {
     /// Over a stream that writes to this socket.
-    pub(crate) fn new(stream: W, socket: &'a UnixStream) -> Patient<'a, W>
+    pub fn new(stream: W, socket: &'a UnixStream) -> Patient<'a, W>
         ensures { result.stream ≡ stream }
     {
         Patient { stream, socket }

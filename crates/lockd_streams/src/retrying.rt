@@ -91,7 +91,7 @@ pub enum WhenUnwritten {
 
 /// A writer at which a write that fails is tried again, if that is wanted.
 #[derive(Drop)]
-pub(crate) struct Retrying<'a, W, C> {
+pub struct Retrying<'a, W, C> {
     writer: W,
     clock: &'a C,
     when: WhenUnwritten,
@@ -99,14 +99,14 @@ pub(crate) struct Retrying<'a, W, C> {
 
 impl<'a, W: Write, C: Clock> Retrying<'a, W, C> {
     /// The writer.
-    pub(crate) fn writer(&self) -> &W
+    pub fn writer(&self) -> &W
         ensures { result.now ≡ self.now.writer }
     {
         &self.writer
     }
 
     /// Before this writer.
-    pub(crate) fn new(writer: W, clock: &'a C, when: WhenUnwritten) -> Retrying<'a, W, C>
+    pub fn new(writer: W, clock: &'a C, when: WhenUnwritten) -> Retrying<'a, W, C>
         ensures { result.writer ≡ writer }
     {
         Retrying {

@@ -1,0 +1,38 @@
+//! What a server reads and writes, beside its sessions: the socket that it listens at, a reader that spins, writers that
+//! try again, a trace's file; and what it tells of itself.
+//!
+//! Contracts see no failure of a reader or a writer, and no file system. They let through:
+//! - a `connection` that first removes what stands at the path;
+//! - one that leaves the socket's file there, or removes it before a client connects;
+//! - a `file_at` that gives other numbers than the file's device and inode, or those of a file at another path;
+//! - a `remove_socket` that asks `is_same_socket` about another path, or removes the file whatever the answer is;
+//! - a `remove_stale` that removes a socket at which somebody listens, or none;
+//! - a `Retrying` that gives up at `Wait`, tries again at `End`, or doesn't pause; a `Telling` that tells always or
+//!   never, or that all is written before it is;
+//! - an `is_at` that always gives the same answer;
+//! - a `Spinning` that never or always spins, reads on after a read that failed, or leaves its socket so that it
+//!   doesn't wait, and then gives `WouldBlock`;
+//! - a `Patient` that tries once, tries again after any failure, tells an error always or another, or leaves its socket
+//!   so that it doesn't wait.
+//!
+//! These tests refuse most of them:
+//! - the file at the path, before a server listens: `try_paths_that_cannot_be_bound` of `tools/try_sockets`;
+//! - the file at the path, once a client connects: `try_a_file_of_somebody_else` and `try_ends` of `tools/try_ends`;
+//! - files that go or can't be written: `tools/try_traces`; old sockets: `tools/try_resumed`;
+//! - when all is written again: `tools/try_words`, `tools/try_commands`.
+//!
+//! None sees a `file_at` that gives another number for the device, since all their files lie on one. None sees a
+//! `Spinning` that reads on after a failed read.
+#![tactic(auto)]
+
+mod observer;
+mod retrying;
+mod socket;
+mod spinning;
+mod trace_file;
+
+pub use observer::{Observer, Parting, Untraced};
+pub use retrying::{Retrying, Telling, WhenUnwritten};
+pub use socket::{OldSocket, connection};
+pub use spinning::{Patient, Spinning};
+pub use trace_file::{end_without_file, is_at};
