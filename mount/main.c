@@ -122,6 +122,7 @@ static void take_away(void)
 static void never_mounted(const char *why)
 {
     place_unmount(&it.place, true);
+    record_clear();
     carrier_stop();
     record_remove();
     errno = 0;
@@ -389,7 +390,11 @@ static int end_unmounted(void)
 {
     struct holders holders;
     unsigned count = open_files(&holders);
+    // Once nothing is mounted the kernel may have given the number anew, while it isn't known yet whether files are open.
+    if (!place_is_mounted(&it.place))
+        record_clear();
     if (count && is_aborted(&holders)) {
+        record_write(it.place.path, it.place.mounted);
         say("the connection was aborted while %u files were open", count);
         leave_dead(&holders);
         return STATUS_LOST;
