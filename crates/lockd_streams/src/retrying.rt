@@ -4,6 +4,7 @@ ghost use Rattle.std.specs.Prelude.{◌≡◌};
 
 use std::io;
 use std::io::{ErrorKind, Write};
+use std::marker::Model;
 use std::thread::sleep;
 use std::time::{Clock, Duration};
 
@@ -11,6 +12,7 @@ use std::time::{Clock, Duration};
 const PAUSE: u64 = 100;
 
 /// Writes to a file, and tells the first of writes that fail, and the first behind it that takes all bytes that wait.
+/// Contracts see the file.
 #[derive(Drop)]
 pub struct Telling<'a, T, N> {
     file: T,
@@ -20,10 +22,16 @@ pub struct Telling<'a, T, N> {
     failed: bool,
 }
 
+impl<'a, T, N> Model for Telling<'a, T, N> {
+    ghost Value = { T };
+
+    ghost view = { λ t. t.file };
+}
+
 impl<'a, T: Write, N: Write> Telling<'a, T, N> {
     /// To a file of this name. Each line that it tells goes to `notices`.
     pub fn new(file: T, name: &'a str, notices: N) -> Telling<'a, T, N>
-        ensures { result.file ≡ file }
+        ensures { result ≡ file }
     {
         Telling {
             file,
@@ -35,14 +43,14 @@ impl<'a, T: Write, N: Write> Telling<'a, T, N> {
 
     /// The file.
     pub fn file(&self) -> &T
-        ensures { result.now ≡ self.now.file }
+        ensures { result.now ≡ self.now }
     {
         &self.file
     }
 
     // Tells that a write failed, if that isn't told yet.
     fn tell_failed(&mut self, error: &io::Error)
-        ensures { self.new.file ≡ self.old.file }
+        ensures { self.new ≡ self.old }
     {
         if !self.failed {
             self.failed = true;
@@ -52,7 +60,7 @@ impl<'a, T: Write, N: Write> Telling<'a, T, N> {
 
     // Tells that all is written, if one failed before.
     fn tell_over(&mut self)
-        ensures { self.new.file ≡ self.old.file }
+        ensures { self.new ≡ self.old }
     {
         if self.failed {
             self.failed = false;
@@ -62,7 +70,7 @@ impl<'a, T: Write, N: Write> Telling<'a, T, N> {
 }
 
 impl<T: Write, N: Write> Write for Telling<'_, T, N> {
-    ghost contents = { λ t. T.contents t.file };
+    ghost contents = { T.contents };
 
     fn write(&mut self, buf: &[u8]) -> io::Result<usize> {
         let written = self.file.write(buf);
@@ -89,7 +97,7 @@ pub enum WhenUnwritten {
     End,
 }
 
-/// A writer at which a write that fails is tried again, if that is wanted.
+/// A writer at which a write that fails is tried again, if that is wanted. Contracts see that writer.
 #[derive(Drop)]
 pub struct Retrying<'a, W, C> {
     writer: W,
@@ -97,17 +105,23 @@ pub struct Retrying<'a, W, C> {
     when: WhenUnwritten,
 }
 
+impl<'a, W, C> Model for Retrying<'a, W, C> {
+    ghost Value = { W };
+
+    ghost view = { λ r. r.writer };
+}
+
 impl<'a, W: Write, C: Clock> Retrying<'a, W, C> {
     /// The writer.
     pub fn writer(&self) -> &W
-        ensures { result.now ≡ self.now.writer }
+        ensures { result.now ≡ self.now }
     {
         &self.writer
     }
 
     /// Before this writer.
     pub fn new(writer: W, clock: &'a C, when: WhenUnwritten) -> Retrying<'a, W, C>
-        ensures { result.writer ≡ writer }
+        ensures { result ≡ writer }
     {
         Retrying {
             writer,
@@ -118,7 +132,7 @@ impl<'a, W: Write, C: Clock> Retrying<'a, W, C> {
 }
 
 impl<W: Write, C: Clock> Write for Retrying<'_, W, C> {
-    ghost contents = { λ r. W.contents r.writer };
+    ghost contents = { W.contents };
 
     fn write(&mut self, buf: &[u8]) -> io::Result<usize> {
         if self.when == WhenUnwritten::Wait {

@@ -8,6 +8,7 @@ ghost use Rattle.lockd_streams.specs.Inside.{WouldWait};
 use crate::observer::Parting;
 use std::io;
 use std::io::{ErrorKind, Read, Write};
+use std::marker::Model;
 use std::os::unix::net::UnixStream;
 
 // How many reads one spin tries, some tens of microseconds long. A client that waits for each reply needs less until
@@ -23,7 +24,8 @@ const WRITES: u32 = 1000;
 
 /// Reads what a socket has, and spins before a read sleeps, since to be woken takes longer than an order. After a spin
 /// that found nothing the next 64 reads come without one. So a slow client costs little, and one that is silent
-/// nothing. While it spins the socket doesn't wait, so others write to it by a `Patient` alone.
+/// nothing. While it spins the socket doesn't wait, so others write to it by a `Patient` alone. Contracts see the
+/// stream.
 #[derive(Drop)]
 pub struct Spinning<'a, R> {
     stream: R,
@@ -35,10 +37,16 @@ pub struct Spinning<'a, R> {
     client: Parting,
 }
 
+impl<'a, R> Model for Spinning<'a, R> {
+    ghost Value = { R };
+
+    ghost view = { λ s. s.stream };
+}
+
 impl<'a, R: Read> Spinning<'a, R> {
     /// Over a stream that reads from this socket.
     pub fn new(stream: R, socket: &'a UnixStream) -> Spinning<'a, R>
-        ensures { result.stream ≡ stream }
+        ensures { result ≡ stream }
     {
         Spinning {
             stream,
@@ -55,9 +63,9 @@ impl<'a, R: Read> Spinning<'a, R> {
 
     // What a spin reads; none if it found nothing, or if it isn't time for one.
     fn spin(&mut self, buf: &mut [u8]) -> Option<io::Result<usize>>
-        ensures read { MatchOption result (Keeps (R.remaining self.old.stream) (R.remaining self.new.stream))
+        ensures read { MatchOption result (Keeps (R.remaining self.old) (R.remaining self.new))
             (λ read. ReadsAtMost read buf.new
-            × ReadConsumes (R.remaining self.old.stream) (R.remaining self.new.stream) read buf.new) }
+            × ReadConsumes (R.remaining self.old) (R.remaining self.new) read buf.new) }
         ensures found { IfSome result (λ read. ¬ WouldWait read) }
     {
         if self.without_spin > 0 {
@@ -78,7 +86,7 @@ impl<'a, R: Read> Spinning<'a, R> {
 }
 
 impl<R: Read> Read for Spinning<'_, R> {
-    ghost remaining = { λ l. R.remaining l.stream };
+    ghost remaining = { R.remaining };
 
     fn read(&mut self, buf: &mut [u8]) -> io::Result<usize> {
         let read = match self.spin(buf) {
@@ -91,7 +99,7 @@ impl<R: Read> Read for Spinning<'_, R> {
 }
 
 /// Writes to a socket at which another thread may spin. If the socket is full and doesn't wait, it is made to wait
-/// again, and the write is tried anew. The spin then ends with a read that sleeps.
+/// again, and the write is tried anew. The spin then ends with a read that sleeps. Contracts see the stream.
 #[derive(Drop)]
 pub struct Patient<'a, W> {
     stream: W,
@@ -99,17 +107,23 @@ pub struct Patient<'a, W> {
     socket: &'a UnixStream,
 }
 
+impl<'a, W> Model for Patient<'a, W> {
+    ghost Value = { W };
+
+    ghost view = { λ p. p.stream };
+}
+
 impl<'a, W: Write> Patient<'a, W> {
     /// Over a stream that writes to this socket.
     pub fn new(stream: W, socket: &'a UnixStream) -> Patient<'a, W>
-        ensures { result.stream ≡ stream }
+        ensures { result ≡ stream }
     {
         Patient { stream, socket }
     }
 }
 
 impl<W: Write> Write for Patient<'_, W> {
-    ghost contents = { λ p. W.contents p.stream };
+    ghost contents = { W.contents };
 
     fn write(&mut self, buf: &[u8]) -> io::Result<usize> {
         for _ in 1..WRITES {
