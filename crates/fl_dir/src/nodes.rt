@@ -3,7 +3,7 @@ ghost use Rattle.std.specs.Prelude.{◌≡◌, ◌+◌, Some, None, IfSome, IsSo
 ghost use Rattle.std.specs.FinMap as map;
 ghost use Rattle.std.specs.Option.{option_copied};
 ghost use Rattle.fl_dir.specs.Directory.{is_known, is_named, linked, nodes_full};
-ghost use Rattle.fl_dir.specs.Inside.Kept.{has_name};
+ghost use Rattle.fl_dir.specs.Inside.Kept.{has_name, is_dead};
 ghost use Rattle.fl_dir.specs.OpenFiles.{lives, has_open_file};
 ghost use Rattle.fl_dir.specs.Changes.{swept, changed_at, without_link};
 
@@ -81,21 +81,22 @@ impl Dir {
         }
     }
 
-    // Something keeps this node alive.
-    fn lives(&self, number: u64, node: &Node) -> bool
-        ensures { result ≡ lives self.now number node.now }
+    // A node of this number is there, and nothing keeps it alive.
+    fn is_dead(&self, number: u64) -> bool
+        ensures { result ≡ is_dead self.now number (map.get self.now.nodes number) }
     {
-        node.linked || node.lookups != 0 || self.has_open_file(number)
+        match self.nodes.get(number) {
+            None => false,
+            Some(slot) => !(slot.node.linked || slot.node.lookups != 0 || slot.fhs != 0),
+        }
     }
 
     // Without the node, if nothing keeps it alive.
     pub(crate) fn sweep(&mut self, number: u64)
         ensures { self.new ≡ swept number self.old }
     {
-        if let Some(node) = self.node_at(number) {
-            if !self.lives(number, node) {
-                self.remove_node(number);
-            }
+        if self.is_dead(number) {
+            self.remove_node(number);
         }
     }
 

@@ -1,6 +1,6 @@
 -- How a directory is kept: each node with a count of its open files, and the linked nodes by hashes of their names.
-use Rattle.std.specs.Prelude.{◌≡◌, ℕ, ◌+◌, ◌*◌, ◌≤◌, ◌^◌, ◌%◌, ◌==◌, bit_xor, count_by, Bool, false, Option, Some}
-use Rattle.std.specs.Prelude.{None, List}
+use Rattle.std.specs.Prelude.{◌≡◌, ℕ, ◌+◌, ◌*◌, ◌≤◌, ◌^◌, ◌%◌, ◌==◌, bit_xor, count_by, Bool, false, not, Option}
+use Rattle.std.specs.Prelude.{Some, None, List}
 use Rattle.std.specs.Prelude.{map, length, if◌then◌else◌}
 use Rattle.std.specs.List.{fold}
 use Rattle.std.specs.Ordering.{nat_cmp}
@@ -9,7 +9,8 @@ use Rattle.std.specs.FinMap.{FinMap, get, entries, from_sorted}
 use Rattle.fl_arena.specs.Chains.{Chains}
 use Rattle.fl_dir.specs.declared.node.Node.{Node}
 use Rattle.fl_dir.specs.declared.nodes.Slot.{Slot}
-use Rattle.fl_dir.specs.Directory.{is_named}
+use Rattle.fl_dir.specs.Directory.{Listing, is_named}
+use Rattle.fl_dir.specs.OpenFiles.{lives}
 use Rattle.fl_dir.specs.Inside.Numbers.{Numbers}
 use Rattle.fl_dir.specs.Inside.Spread.{at, AreSorted}
 
@@ -48,6 +49,11 @@ open_in (Some slot) = slot.fhs
 abbrev pub hash_on : ℕ → ℕ → Option (List ℕ) → Option ℕ
 hash_on mask c None = None
 hash_on mask c (Some name) = if bit_and (hash_of name) mask == c then Some (hash_of name) else None
+
+-- a node that may be there is there, and nothing keeps it alive
+abbrev pub is_dead : Listing → ℕ → Option Node → Bool
+is_dead d number None = false
+is_dead d number (Some node) = not (lives d number node)
 
 -- how many fhs are open on a node
 abbrev pub open_count : FinMap nat_cmp ℕ → ℕ → ℕ
