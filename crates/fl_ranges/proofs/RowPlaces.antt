@@ -1,6 +1,6 @@
 -- The place of a key's row: how a walk finds it, and what stands there after a change.
 use Rattle.std.proofs.Common.{◌≡◌, ℕ, zero, suc, ◌+◌, Bool, true, false, cond, ◌||◌, Some, None, List, [], ◌∷◌, drop}
-use Rattle.std.proofs.Common.{slice_get, refl, ap, sym, ◌∙◌, subst}
+use Rattle.std.proofs.Common.{slice_get, refl, ap, sym, ◌∙◌}
 use Rattle.std.proofs.Common.{arith}
 use Rattle.std.proofs.lemmas.Option.{none-some}
 use Rattle.std.specs.List.{insert, remove, AllByRecursion}
@@ -12,7 +12,7 @@ use Rattle.fl_ranges.specs.declared.lock.Mark.{Mark}
 use Rattle.fl_ranges.specs.Marking.{key_cmp}
 use Rattle.fl_ranges.specs.Inside.LockRows.{LockRow, key_precedes, AreInOrder, spans_of, row_index, has_row, row_before}
 use Rattle.fl_ranges.specs.Inside.LockRows.{given_spans}
-use Rattle.fl_ranges.proofs.Spots.{same_key, key_itself}
+use Rattle.fl_ranges.proofs.Spots.{same_key}
 use Rattle.fl_ranges.proofs.RowRuns.{IsOther, turned_key, before_differs}
 use Rattle.fl_ranges.proofs.GivenSpans.{before_both, one_before, all_behind, behind_others}
 
@@ -97,39 +97,6 @@ skipped key (r ∷ rs) (suc j) other order found past =
     record {
       index = omega (arith, index_more key r rs before, rest.index);
       own = has_more key r rs before ∙ rest.own;
-    }
-
--- what goes before the key isn't behind it
-pub not_behind : (a key : Key) → key_precedes a key ≡ true → key_precedes key a ≡ false
-not_behind a key before = go (key_precedes key a) refl
-  where
-    go : (b : Bool) → key_precedes key a ≡ b → key_precedes key a ≡ false
-    go false is = is
-    go true is = absurd (cc (sym (before_differs a a (before_both a key a before is)) ∙ key_itself a))
-
--- nor is the key behind itself
-pub not_itself : (key : Key) → key_precedes key key ≡ false
-not_itself key = go (key_precedes key key) refl
-  where
-    go : (b : Bool) → key_precedes key key ≡ b → key_precedes key key ≡ false
-    go false is = is
-    go true is = absurd (cc (sym (before_differs key key is) ∙ key_itself key))
-
--- the row of the key itself
-pub record IsOwnRow (key : Key) (rs : List LockRow) (j : ℕ) : Type 0 where
-  pub index : row_index key rs ≡ j
-  pub own : has_row key rs ≡ true
-
-pub own_row : (key : Key) (rs : List LockRow) (j : ℕ) → AreInOrder rs → slice_get (keys rs) j ≡ Some key → IsOwnRow key rs j
-own_row key rs j order found =
-    let past = skipped key rs j key order found (not_itself key) in
-    let h = row_here rs j key found in
-    let before : key_precedes h.row.key key ≡ false = ap (λ (k : Key). key_precedes k key) h.key_is ∙ not_itself key in
-    let here = in_order_drop rs j order in
-    record {
-      index = omega (arith, past.index, ap (row_index key) h.rest ∙ index_end key h.row (drop (j + 1) rs) before);
-      own = past.own ∙ ap (has_row key) h.rest ∙ has_here key h.row (drop (j + 1) rs) (subst AreInOrder h.rest here) before
-          ∙ ap (λ (k : Key). eq_by_cmp key_cmp k key) h.key_is ∙ key_itself key;
     }
 
 -- ---- a change at the place

@@ -30,7 +30,7 @@ fn is_same(a: &Key, b: &Key) -> bool
     *a == *b
 }
 
-// Where the walk to a key's place begins: at its chain's last row if that stands before it, since what is greater
+// Where the walk to a key's place begins: at its chain's last row if the key isn't before that, since what is greater
 // than all before comes last, and else at the first.
 fn walk_start(table: &Rows<Key, Span<Mark>>, key: &Key) -> Cursor
     requires table { IsLockTable table.now (limit_of table.now) (chain_count table.now) }
@@ -44,7 +44,7 @@ fn walk_start(table: &Rows<Key, Span<Mark>>, key: &Key) -> Cursor
     let chain = home(table, key.node);
     let last = table.last_row(chain);
     if let Some(here) = table.key(&last) {
-        if key_precedes(here, key) {
+        if !key_precedes(key, here) {
             return last;
         }
     }
@@ -52,7 +52,7 @@ fn walk_start(table: &Rows<Key, Span<Mark>>, key: &Key) -> Cursor
 }
 
 // The cursor at the first row of the key's chain that doesn't precede the key's, and whether it is the key's own.
-// It looks at the last row first.
+// It looks at the first row first, since most nodes have one row.
 #[inline(always)]
 pub(crate) fn find_row(table: &Rows<Key, Span<Mark>>, key: &Key) -> (Cursor, bool)
     requires table { IsLockTable table.now (limit_of table.now) (chain_count table.now) }
@@ -62,13 +62,14 @@ pub(crate) fn find_row(table: &Rows<Key, Span<Mark>>, key: &Key) -> (Cursor, boo
     ensures own { result.1 ≡ has_row key.now (rows table.now (home (chain_count table.now) key.now.node)) }
     ensures at_row { result.1 ≡ true → IsSome result.0.slot }
 {
-    let last = table.last_row(home(table, key.node));
-    if let Some(here) = table.key(&last) {
-        if is_same(here, key) {
-            return (last, true);
-        }
+    let first = table.first_row(home(table, key.node));
+    let Some(here) = table.key(&first) else {
+        return (first, false);
+    };
+    if key_precedes(here, key) {
+        return walk_to_row(table, key);
     }
-    walk_to_row(table, key)
+    (first, is_same(here, key))
 }
 
 // The same, by a walk along the rows.

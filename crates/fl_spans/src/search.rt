@@ -43,7 +43,8 @@ pub fn find<K: Copy, M: Copy, F: Fn(&M) -> bool>(
 }
 
 // Where a walk to the first span that ends at a byte or past it begins: at the row's last span if that one begins at
-// the byte or before it, since all others then end before the byte, and else at the first.
+// the byte or before it, since all others then end before the byte, and else at the first. Most rows have one span,
+// which isn't looked at here.
 pub(crate) fn walk_start<K: Copy, M: Copy>(
     rows: &Rows<K, Span<M>>,
     row: &Cursor,
@@ -58,6 +59,9 @@ pub(crate) fn walk_start<K: Copy, M: Copy>(
     ensures before { AllByRecursion (λ s. s.end < byte) (take result.index (spans_at rows.now row.now)) }
 {
     let last = rows.last_run(row);
+    if last.index == 0 {
+        return last;
+    }
     if let Some(span) = rows.run(&last) {
         if span.start <= byte {
             return last;
