@@ -3,35 +3,43 @@
 #   lockd   a folder that mount/out/lockd_mount has mounted, with 1 and 4 workers;
 #   null    a FUSE file system in C of one thread that answers 0 to each message: the floor of any FUSE server;
 #   memory  files in /dev/shm, with no server.
-# With --resume it times two mounts with 1 worker alone, one with a trace and one with --resume, in twelve short runs of 3,000 calls:
-# they are nearly as fast, so a disturbance of one long run would be all that is seen.
 # Each process makes as many calls as the argument says (else 20,000), four times as many in memory, and a tenth
 # goes before them that doesn't count. Each run has a mount of its own. The runs take turns, three times, and the best of
 # each figure counts. Prints pairs a second and p50 of a call, then the ratios, and what is aimed at. Wants root,
 # /dev/fuse, a C compiler and Python 3.
+# With --resume it compares two mounts with 1 worker, one with a trace and one with --resume. They are nearly as fast, so both stand
+# all the time, and are asked in turn, for 1,000 calls each, a hundred times. Prints the median of the ratios of neighbours, and the
+# quarters about it.
 #
 #     bench/mount.sh [--resume] [CALLS]
 set -eu
+resumes= calls=
+for word in "$@"; do
+    case $word in
+        --resume) resumes=1 ;;
+        *[!0-9]* | '') echo "bench/mount.sh [--resume] [CALLS]" >&2 && exit 2 ;;
+        *) calls=$word ;;
+    esac
+done
 . "$(dirname "$0")/../tools/built_lockd.sh"
 for source in null_fuse fcntl; do
     cc -O2 -Wall -Wextra -o "$work/$source" "bench/peers/$source.c"
 done
 mount/build
-resumes=
-[ "${1:-}" != --resume ] || { resumes=1 && shift; }
 unshare --mount --propagation private --pid --fork --kill-child --mount-proc \
-    python3 - "$(realpath "$program")" "$work" "${1:-0}" "$resumes" <<'END'
-import itertools, os, shutil, subprocess, sys, tempfile, time
+    python3 - "$(realpath "$program")" "$work" "${calls:-0}" "$resumes" <<'END'
+import contextlib, itertools, os, shutil, statistics, subprocess, sys, tempfile
 
 PROGRAM, WORK, CALLS, RESUMES = *sys.argv[1:3], int(sys.argv[3]), sys.argv[4]
-CALLS = CALLS or (3_000 if RESUMES else 20_000)
-ROUNDS, LONGEST = 12 if RESUMES else 3, 120
+CALLS = CALLS or (1_000 if RESUMES else 20_000)
+ROUNDS, TURNS, LONGEST = 3, 100, 120
 NUMBER = itertools.count()
 PROCESSES = 1, 8
-LOCKD = ["lockd, 1 worker", "lockd, 4 workers"]
-FILES = ["lockd, 1 worker", "lockd, 1 worker, resume"] if RESUMES else ["memory", "null", *LOCKD]
+TRACED, RESUMED = "lockd, 1 worker", "lockd, 1 worker, resume"
+FILES = ["memory", "null", TRACED, "lockd, 4 workers"]
 # What ratios are to, and what is aimed at: at least so much.
-AIMS = {"lockd, 1 worker": 0.93} if RESUMES else {"null": 0.8, "memory": None}
+AIMS = {"null": 0.8, "memory": None}
+AIM_RESUMED = 0.93
 
 # The command that mounts a folder.
 def server(files, folder):
@@ -47,21 +55,47 @@ def timed(folder, processes, calls):
     told = [[float(word) for word in it.communicate(timeout=LONGEST)[0].split()] for it in asked]
     return sum(it[0] for it in told), sorted(it[1] for it in told)[processes // 2]
 
-def measured(files, processes):
+@contextlib.contextmanager
+def mounted(files):
     folder = tempfile.mkdtemp(dir="/dev/shm" if files == "memory" else WORK)
     try:
         if files == "memory":
-            return timed(folder, processes, 4 * CALLS)
+            yield folder
+            return
         serving = subprocess.Popen(server(files, folder), stdout=subprocess.PIPE, stderr=subprocess.DEVNULL, text=True,
                                    env={**os.environ, "LOCKD": PROGRAM})
         assert serving.stdout.readline().startswith("mounted")
-        found = timed(folder, processes, CALLS)
-        subprocess.run(["umount", folder], check=True, timeout=LONGEST)
+        try:
+            yield folder
+            subprocess.run(["umount", folder], check=True, timeout=LONGEST)
+        except BaseException:
+            serving.kill()
+            subprocess.run(["umount", "-l", folder], check=False, timeout=LONGEST)
+            raise
         said = serving.communicate(timeout=LONGEST)[0].split()
         assert serving.returncode == 0 and (files == "null" or said[-1] == "legal"), said
-        return found
     finally:
         shutil.rmtree(folder, ignore_errors=True)
+
+def measured(files, processes):
+    with mounted(files) as folder:
+        return timed(folder, processes, 4 * CALLS if files == "memory" else CALLS)
+
+# The ratios of pairs a second of a mount with --resume to those of one with a trace, asked right before or after it.
+def ratios_resumed(processes):
+    found = []
+    with mounted(TRACED) as traced, mounted(RESUMED) as resumed:
+        for at in range(TURNS):
+            rates = {folder: timed(folder, processes, CALLS)[0] for folder in ((traced, resumed) if at % 2 else (resumed, traced))}
+            found.append(rates[resumed] / rates[traced])
+    return found
+
+if RESUMES:
+    for processes in PROCESSES:
+        low, median, high = statistics.quantiles(ratios_resumed(processes), n=4)
+        print(f"pairs with --resume to those with a trace, {processes} at once: {median:.3f}, half of them {low:.2f} to {high:.2f}; "
+              f"aim {AIM_RESUMED}", flush=True)
+    sys.exit()
 
 runs = {}
 for _ in range(ROUNDS):
