@@ -125,7 +125,7 @@ struct mounts find_mounts(pid_t pid, dev_t device, const char *path)
 // lockd's that is seen at another path may be the one that is asked for, in a container.
 static bool is_given_again(dev_t device, const struct holders *holders)
 {
-    if (record_of_living(device))
+    if (record_has_later(device))
         return true;
     for (int i = -1; i < holders->count && i < MOST_HOLDERS; i++)
         if (find_mounts(i < 0 ? getpid() : holders->pids[i], device, "").others)

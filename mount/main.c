@@ -122,9 +122,8 @@ static void take_away(void)
 static void never_mounted(const char *why)
 {
     place_unmount(&it.place, true);
-    record_clear();
-    carrier_stop();
     record_remove();
+    carrier_stop();
     errno = 0;
     fail("%s; nothing is mounted", why);
 }
@@ -319,9 +318,8 @@ static bool unmount_by(int signal)
 static void end_mount(void)
 {
     place_unmount(&it.place, true);
-    record_clear();
-    carrier_stop();
     record_remove();
+    carrier_stop();
 }
 
 static int end_by(int signal)
@@ -390,11 +388,7 @@ static int end_unmounted(void)
 {
     struct holders holders;
     unsigned count = open_files(&holders);
-    // Once nothing is mounted the kernel may have given the number anew, while it isn't known yet whether files are open.
-    if (!place_is_mounted(&it.place))
-        record_clear();
     if (count && is_aborted(&holders)) {
-        record_write(it.place.path, it.place.mounted);
         say("the connection was aborted while %u files were open", count);
         leave_dead(&holders);
         return STATUS_LOST;

@@ -150,10 +150,10 @@ enum record { RECORD_FREE, RECORD_TAKEN, RECORD_NONE };
 enum record record_take(const char *path);
 // The device number of the mount that the record tells of, or 0.
 dev_t record_read(void);
-bool record_of_living(dev_t device);
-void record_write(const char *path, dev_t device);
-// Nothing is mounted any more, and the kernel may give its number to another mount.
-void record_clear(void);
+// Whether the number is that of a later mount by now, as another record says.
+bool record_has_later(dev_t device);
+// `when`: by `seconds`, at a moment when the mount was there.
+void record_write(const char *path, dev_t device, double when);
 void record_remove(void);
 // Lets it go, as it is.
 void record_release(void);

@@ -135,13 +135,14 @@ int place_mount(struct place *place, const struct options *options)
         return -1;
     }
     place->mounted = device_at(place->path);
+    double when = seconds();
     if (place->mounted == place->below.st_dev || !find_mounts(getpid(), place->mounted, place->path).here) {
         say("%s isn't where it was, and nothing stays mounted", place->path);
         unmount_moved(place);
         close(device);
         return -1;
     }
-    record_write(place->path, place->mounted);
+    record_write(place->path, place->mounted, when);
     return device;
 }
 

@@ -1,13 +1,13 @@
 // The record of a mount, in /run/lockd_mount or $XDG_RUNTIME_DIR/lockd_mount. It outlives a carrier
-// that was killed, and tells the next one by which number the kernel had the mount. A carrier that
-// runs has its record locked.
+// that was killed, and tells the next one by which number the kernel had the mount, and when. A
+// carrier that runs has its record locked.
 #include "mount.h"
 
 #include <dirent.h>
 #include <errno.h>
 #include <fcntl.h>
 #include <libgen.h>
-#include <signal.h>
+#include <math.h>
 #include <stdio.h>
 #include <stdlib.h>
 #include <string.h>
@@ -66,65 +66,78 @@ static void read_boot(char *boot, size_t size)
         close(file);
 }
 
-// What a record says: the number of the mount, or 0, and who wrote it.
-static dev_t device_in(int file, int *writer)
+// How far this namespace's clock is ahead of the machine's, by which records say when.
+static double ahead(void)
+{
+    char text[128] = "";
+    long long whole = 0;
+    long rest = 0;
+    int file = open("/proc/self/timens_offsets", O_RDONLY | O_CLOEXEC);
+    if (file >= 0 && read(file, text, sizeof text - 1) > 0)
+        sscanf(text, "monotonic %lld %ld", &whole, &rest);
+    if (file >= 0)
+        close(file);
+    return (double)whole + (double)rest / 1e9;
+}
+
+// What a record says: the number of the mount, or 0, and when the mount had it. One of an older program has no time, which is
+// neither earlier nor later than any, and one that is cut off says nothing.
+struct told {
+    dev_t device;
+    double when;
+};
+
+static struct told told_by(int file)
 {
     char text[PATH_MAX + 256], boot[64], then[64] = "";
     unsigned major, minor;
+    struct told told = {.when = NAN};
     ssize_t size = file < 0 ? -1 : pread(file, text, sizeof text - 1, 0);
-    if (size <= 0)
-        return 0;
+    if (size <= 0 || text[size - 1] != '\n')
+        return told;
     text[size] = 0;
     read_boot(boot, sizeof boot);
-    if (sscanf(text, "connection %u:%u boot %63s pid %d", &major, &minor, then, writer) != 4 || strcmp(boot, then) != 0)
-        return 0;
-    return makedev(major, minor);
+    if (sscanf(text, "connection %u:%u boot %63s pid %*d at %lf", &major, &minor, then, &told.when) >= 3 && !strcmp(boot, then))
+        told.device = makedev(major, minor);
+    return told;
 }
 
 dev_t record_read(void)
 {
-    int writer;
-    return device_in(record, &writer);
+    return told_by(record).device;
 }
 
-void record_write(const char *path, dev_t device)
+void record_write(const char *path, dev_t device, double when)
 {
     char text[PATH_MAX + 256], boot[64];
     if (record < 0)
         return;
     read_boot(boot, sizeof boot);
-    int size = snprintf(text, sizeof text, "connection %u:%u boot %s pid %d folder %s\n", major(device), minor(device), boot,
-                        (int)getpid(), path);
+    int size = snprintf(text, sizeof text, "connection %u:%u boot %s pid %d at %.6f folder %s\n", major(device), minor(device), boot,
+                        (int)getpid(), when - ahead(), path);
     if (ftruncate(record, 0) || pwrite(record, text, (size_t)size, 0) != size)
         say("cannot write %s: a later mount won't know of this one if it is killed", record_path);
 }
 
-// Whether another carrier, which still runs, has a mount of this number.
-bool record_of_living(dev_t device)
+// The kernel gives a number again only once its mount is gone. A carrier may see that late, or be killed, and its record stays.
+// So of two records with one number the later one is true.
+bool record_has_later(dev_t device)
 {
     bool found = false;
     char folder[PATH_MAX];
+    struct told ours = told_by(record);
     snprintf(folder, sizeof folder, "%s", record_path);
-    DIR *list = record < 0 ? NULL : opendir(dirname(folder));
+    DIR *list = ours.device != device ? NULL : opendir(dirname(folder));
     for (struct dirent *it; list && !found && (it = readdir(list));) {
-        int other = openat(dirfd(list), it->d_name, O_RDONLY | O_CLOEXEC | O_NOFOLLOW);
-        int writer = 0;
-        bool is_here = strstr(record_path, it->d_name) != NULL;
-        // Who begins has a record locked that a killed one wrote.
-        if (other >= 0 && !is_here && device_in(other, &writer) == device)
-            found = flock(other, LOCK_SH | LOCK_NB) && errno == EWOULDBLOCK && !kill(writer, 0);
+        int other = openat(dirfd(list), it->d_name, O_RDONLY | O_NONBLOCK | O_CLOEXEC | O_NOFOLLOW);
+        struct told told = told_by(other);
+        found = told.device == device && told.when > ours.when;
         if (other >= 0)
             close(other);
     }
     if (list)
         closedir(list);
     return found;
-}
-
-void record_clear(void)
-{
-    if (record >= 0 && ftruncate(record, 0))
-        say("cannot write %s: a later mount may take its number for that of this one", record_path);
 }
 
 void record_release(void)

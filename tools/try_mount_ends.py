@@ -294,21 +294,41 @@ def try_the_carrier_is_killed():
     assert time.monotonic() - begun > 0.4
 
 
-def try_a_number_is_given_again_while_its_last_mount_ends():
-    """A mount that was killed isn't taken for over, since another one that still ends had the kernel's number of it before."""
-    ending = Mount()
-    server = ending.server()
-    os.kill(server, signal.SIGSTOP)
-    unmount(ending.folder)
-    mount = Mount()
-    (one,) = children(f"{mount.folder}/held", 1)
-    mount.end(mount.running.kill)
-    subprocess.run(["umount", "-l", mount.folder], timeout=PATIENCE, check=True)
-    contains(refusal(folder=mount.folder), "an earlier mount", str(one.pid))
-    os.kill(server, signal.SIGCONT)
-    same(ending.running.wait(PATIENCE), 0)
-    one.kill()
-    mounts_again(mount.folder)
+def given_again(end):
+    """A mount that is gone, once this was done to its carrier, and a later one that got its number. Other tries mount, too, and may get one first."""
+    gone = {}
+    while (number := number_of(mount := Mount())) not in gone:
+        assert len(gone) < 50, "no number is given again"
+        end(mount)
+        subprocess.run(["umount", "-l", mount.folder], timeout=PATIENCE, check=True)
+        gone[number] = mount
+    first = gone.pop(number)
+    for it in gone.values():
+        it.end(lambda: it.running.send_signal(signal.SIGCONT))
+    return first, mount
+
+
+def try_a_number_is_given_again_while_its_last_carrier_stands_still():
+    """The second mount ends while a file is open. It isn't taken for over, although the record of the first one has its number, too."""
+    for status, end in [(-signal.SIGKILL, lambda it: it.running.kill())] + [(4, abort)] * can_abort():
+        first, second = given_again(lambda it: stop(it.running.pid))
+        (one,) = children(f"{second.folder}/held", 1)
+        same(second.end(lambda: end(second))[0], status)
+        subprocess.run(["umount", "-l", second.folder], timeout=PATIENCE, check=True)
+        contains(refusal(folder=second.folder), "an earlier mount", str(one.pid))
+        same(first.end(lambda: first.running.send_signal(signal.SIGCONT)), (0, "legal"))
+        contains(refusal(folder=second.folder), "an earlier mount", str(one.pid))
+        one.kill()
+        mounts_again(second.folder)
+
+
+def try_a_number_is_given_again_after_its_last_carrier_was_killed():
+    """The first mount is over, although a file is open in the second one, which has its number."""
+    first, second = given_again(lambda it: it.end(it.running.kill))
+    (one,) = children(f"{second.folder}/held", 1)
+    subprocess.run(["umount", "-l", second.folder], timeout=PATIENCE, check=True)
+    same(Mount(folder=first.folder).end(), (0, "legal"))
+    same(second.end(one.kill), (0, "legal"))
 
 
 def try_the_carrier_is_killed_without_open_files():

@@ -70,10 +70,14 @@ class Mount:
         return bool(asked) and asked[-1][7] == b"setlkw" and asked[-1][2] not in told
 
 
-def abort(mount):
+def number_of(mount):
+    """The number that the kernel has for it, which it gives again to a later one."""
     with open("/proc/self/mountinfo", encoding="utf-8") as it:
-        number = next(line.split()[2] for line in it if line.split()[4] == mount.folder).partition(":")[2]
-    with open(f"/sys/fs/fuse/connections/{number}/abort", "w", encoding="ascii") as it:
+        return next(line.split()[2] for line in it if line.split()[4] == mount.folder).partition(":")[2]
+
+
+def abort(mount):
+    with open(f"/sys/fs/fuse/connections/{number_of(mount)}/abort", "w", encoding="ascii") as it:
         it.write("1")
 
 
