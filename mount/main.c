@@ -302,7 +302,7 @@ static bool unmount_by(int signal)
             return gone;
         unsigned count = open_files(&holders);
         if (!said && !count && !holders.count)
-            say("SIG%s came; no file is open, but it is mounted in another namespace too", sigabbrev_np(signal));
+            say("SIG%s came; no file is open, but it is mounted elsewhere too", sigabbrev_np(signal));
         else if (!said)
             say("SIG%s came; %u files are open, of processes %s", sigabbrev_np(signal), count, holders_text(&holders));
         if (!said && it.options.grace)

@@ -221,7 +221,7 @@ def try_term_where_another_namespace_has_it_mounted():
                               stdin=subprocess.PIPE, stdout=subprocess.PIPE, text=True)
     same(inside.stdout.readline(), "in\n")
     same(mount.end(mount.term), (0, "legal"))
-    mount.says("mounted in another namespace too")
+    mount.says("mounted elsewhere too")
     mounts_again(mount.folder)
     inside.communicate("end\n", timeout=PATIENCE)
 
