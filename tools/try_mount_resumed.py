@@ -95,11 +95,12 @@ def kill_at_random(mount, chance, is_over):
 
 
 def asked_once(lines):
-    """Each unique stands in one `ask`, but that of a batch of FORGETs, which stands in one for each node, one after another. How many orders, and batches."""
+    """Each unique stands in one `ask`, but that of a batch of FORGETs, which stands in one for each node, one after another. How many orders, and batches.
+    The kernel itself may send an INTERRUPT twice: who is interrupted queues it, and so does the read of its request."""
     asks = [line.split() for line in lines if line.startswith(b"ask ")]
     count, last = Counter(it[2] for it in asks), {}
     for at, it in enumerate(asks):
-        if count[it[2]] > 1:
+        if count[it[2]] > 1 + (it[7] == b"interrupt"):
             assert it[7] == b"forget" and last.get(it[2], at - 1) == at - 1, (it, count[it[2]])
             last[it[2]] = at
     forgets = Counter((it[2], it[3]) for it in asks if it[7] == b"forget")
