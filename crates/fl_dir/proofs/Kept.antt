@@ -17,7 +17,7 @@ use Rattle.fl_arena.specs.Chains.{Chains, items, item_count}
 use Rattle.fl_dir.specs.declared.node.Node.{Node}
 use Rattle.fl_dir.specs.declared.nodes.Slot.{Slot}
 use Rattle.fl_dir.specs.Directory.{Listing, is_named}
-use Rattle.fl_dir.specs.OpenFiles.{has_open_file, lives}
+use Rattle.fl_dir.specs.OpenFiles.{has_open_file}
 use Rattle.fl_dir.specs.Changes.{set_at, changed_at}
 use Rattle.fl_dir.specs.Inside.Kept.{bare, link_name, name_in, open_in, hash_of, hash_on, has_name, open_count, AreNamed, IsKept}
 use Rattle.fl_dir.specs.Inside.Numbers.{Numbers}
@@ -422,19 +422,11 @@ pub slot_linked : (m : map.FinMap nat_cmp Slot) (k : ℕ) (s : Slot) (name : Lis
 slot_linked m k s name there named linked =
     so_linked s.node name (so_kept m k s (λ node. node.linked ≡ true) there linked) (so_kept m k s (λ node. node.name ≡ name) there named)
 
--- a node that nothing keeps alive
+-- a node that isn't linked and isn't open
 pub dead_is : (n : Numbers Slot) (names : Chains (ℕ × ℕ)) (mask : ℕ) (f : Numbers ℕ) (k : ℕ) (s : Slot) → IsKept n names mask f → map.get n.values k ≡ Some s
-    → lives (seen n f) k s.node ≡ false → (link_name s.node ≡ None) × (s.fhs ≡ 0)
-dead_is n names mask f k s kept there dead = (nameless s.node.linked (clear _ _ (clear _ _ dead)), shut (after _ _ dead))
+    → s.node.linked ≡ false → has_open_file (seen n f) k ≡ false → (link_name s.node ≡ None) × (s.fhs ≡ 0)
+dead_is n names mask f k s kept there unlinked closed = (nameless s.node.linked unlinked, shut closed)
   where
-    clear : (a b : Bool) → (a || b) ≡ false → a ≡ false
-    clear true b is = absurd (cc is)
-    clear false b is = refl
-
-    after : (a b : Bool) → (a || b) ≡ false → b ≡ false
-    after true b is = absurd (cc is)
-    after false b is = is
-
     nameless : (linked : Bool) → linked ≡ false → cond linked (Some s.node.name) None ≡ None
     nameless false is = refl
     nameless true is = absurd (cc is)

@@ -219,10 +219,10 @@ impl Dir {
     pub fn forget(&mut self, node: u64, n: u64)
         ensures { self.new ≡ after_forget self.old node n }
     {
-        if let Some(found) = self.node_at(node) {
-            let lookups = found.lookups.saturating_sub(n);
-            self.set_lookups(node, lookups);
-            self.sweep(node);
+        match self.left_of(node, n) {
+            None => {}
+            Some((lookups, true)) => self.set_lookups(node, lookups),
+            Some((_, false)) => self.remove_node(node),
         }
     }
 

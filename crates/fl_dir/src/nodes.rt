@@ -1,10 +1,10 @@
 //! The directory's nodes.
-ghost use Rattle.std.specs.Prelude.{◌≡◌, ◌+◌, Some, None, IfSome, IsSome, option_map, true, false};
+ghost use Rattle.std.specs.Prelude.{◌≡◌, ◌+◌, ◌==◌, ◌||◌, not, Some, None, IfSome, IsSome, option_map, true, false};
 ghost use Rattle.std.specs.FinMap as map;
 ghost use Rattle.std.specs.Option.{option_copied};
 ghost use Rattle.fl_dir.specs.Directory.{is_known, is_named, linked, nodes_full};
-ghost use Rattle.fl_dir.specs.Inside.Kept.{has_name, is_dead};
-ghost use Rattle.fl_dir.specs.OpenFiles.{lives, has_open_file};
+ghost use Rattle.fl_dir.specs.Inside.Kept.{has_name, is_dead, left_of};
+ghost use Rattle.fl_dir.specs.OpenFiles.{has_open_file};
 ghost use Rattle.fl_dir.specs.Changes.{swept, changed_at, without_link};
 
 use crate::dir::{Dir, ROOT};
@@ -18,6 +18,15 @@ use fl_order::Name;
 pub(crate) struct Slot {
     pub(crate) fhs: u32,
     pub(crate) node: Node,
+}
+
+impl Slot {
+    // Something keeps its node alive, if that has so many lookups.
+    fn lives_with(&self, lookups: u64) -> bool
+        ensures { result ≡ (self.now.node.linked || not (lookups == 0) || not (self.now.fhs == 0)) }
+    {
+        self.node.linked || lookups != 0 || self.fhs != 0
+    }
 }
 
 impl Dir {
@@ -87,7 +96,21 @@ impl Dir {
     {
         match self.nodes.get(number) {
             None => false,
-            Some(slot) => !(slot.node.linked || slot.node.lookups != 0 || slot.fhs != 0),
+            Some(slot) => !slot.lives_with(slot.node.lookups),
+        }
+    }
+
+    // How many lookups the node of this number has with `n` less, at least none, and whether something keeps it alive
+    // then.
+    pub(crate) fn left_of(&self, number: u64, n: u64) -> Option<(u64, bool)>
+        ensures { result ≡ option_map (left_of self.now number n) (map.get self.now.nodes number) }
+    {
+        match self.nodes.get(number) {
+            None => None,
+            Some(slot) => {
+                let lookups = slot.node.lookups.saturating_sub(n);
+                Some((lookups, slot.lives_with(lookups)))
+            }
         }
     }
 
@@ -100,9 +123,10 @@ impl Dir {
         }
     }
 
-    // A node that is there and that nothing keeps alive goes.
-    fn remove_node(&mut self, number: u64)
-        requires dead { IfSome (map.get self.old.nodes number) (λ node. lives self.old number node ≡ false) }
+    // A node goes that is there, isn't linked and isn't open.
+    pub(crate) fn remove_node(&mut self, number: u64)
+        requires unlinked { IfSome (map.get self.old.nodes number) (λ node. node.linked ≡ false) }
+        requires closed { has_open_file self.old number ≡ false }
         requires there { IsSome (map.get self.old.nodes number) }
         ensures { self.new ≡ record self.old { nodes = map.remove self.old.nodes number } }
     {

@@ -11,6 +11,7 @@ use Rattle.fl_dir.specs.declared.node.Node.{Node}
 use Rattle.fl_dir.specs.declared.nodes.Slot.{Slot}
 use Rattle.fl_dir.specs.Directory.{Listing, is_named}
 use Rattle.fl_dir.specs.OpenFiles.{lives}
+use Rattle.fl_dir.specs.Changes.{counted_down}
 use Rattle.fl_dir.specs.Inside.Numbers.{Numbers}
 use Rattle.fl_dir.specs.Inside.Spread.{at, AreSorted}
 
@@ -54,6 +55,10 @@ hash_on mask c (Some name) = if bit_and (hash_of name) mask == c then Some (hash
 abbrev pub is_dead : Listing → ℕ → Option Node → Bool
 is_dead d number None = false
 is_dead d number (Some node) = not (lives d number node)
+
+-- how many lookups a node has with so many less, and whether something keeps it alive then
+abbrev pub left_of : Listing → ℕ → ℕ → Node → ℕ × Bool
+left_of d number n node = ((counted_down n node).lookups, lives d number (counted_down n node))
 
 -- how many fhs are open on a node
 abbrev pub open_count : FinMap nat_cmp ℕ → ℕ → ℕ

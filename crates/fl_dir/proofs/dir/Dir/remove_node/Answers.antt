@@ -1,7 +1,7 @@
 use Rattle.std.proofs.Common.{◌≡◌, ◌∙◌, IsSome, IfSome, false, ap, sym, subst}
 use Rattle.std.specs.FinMap.{get, remove}
 use Rattle.fl_dir.specs.Directory.{Listing}
-use Rattle.fl_dir.specs.OpenFiles.{lives}
+use Rattle.fl_dir.specs.OpenFiles.{has_open_file}
 use Rattle.fl_dir.specs.Inside.Kept.{IsKept}
 use Rattle.fl_dir.proofs.Bare.{bare_remove}
 use Rattle.fl_dir.proofs.Kept.{seen, some_kept, node_kept, so_kept, dead_is, gone}
@@ -17,9 +17,10 @@ invariant_of-self c =
     let n = own.nodes in
     let k = c.args.number in
     let s = node_kept n.values k (subst (λ (d : Listing). IsSome (get d.nodes k)) (sym c.self.view_is) c.requires.there) in
-    let dead = so_kept n.values k s.0 (λ node. lives (seen n own.files) k node ≡ false) s.1
-    (subst (λ (d : Listing). IfSome (get d.nodes k) (λ node. lives d k node ≡ false)) (sym c.self.view_is) c.requires.dead) in
-    let is = dead_is n own.names.entries own.names.mask own.files k s.0 c.self.invariant s.1 dead in
+    let unlinked = so_kept n.values k s.0 (λ node. node.linked ≡ false) s.1
+    (subst (λ (d : Listing). IfSome (get d.nodes k) (λ node. node.linked ≡ false)) (sym c.self.view_is) c.requires.unlinked) in
+    let closed = subst (λ (d : Listing). has_open_file d k ≡ false) (sym c.self.view_is) c.requires.closed in
+    let is = dead_is n own.names.entries own.names.mask own.files k s.0 c.self.invariant s.1 unlinked closed in
     subst (λ m. IsKept m own.names.entries own.names.mask own.files) (sym c.remove.ensures)
     (gone n own.names.entries own.names.mask own.files k s.0 c.self.invariant s.1 is.0 is.1)
 
