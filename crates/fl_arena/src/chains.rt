@@ -228,14 +228,15 @@ impl<T: Copy> Arena<T> {
         let Some(slot) = cursor.slot else {
             unreachable!()
         };
-        let member = *member_at(&self.nodes, slot);
+        let member = member_at(&self.nodes, slot);
+        let (before, after, item) = (member.previous, member.next, member.item);
         let ends = self.ends[cursor.chain];
-        link_out(&mut self.nodes, slot, member, self.spare);
-        self.ends[cursor.chain] = ends.without(member.previous, member.next);
+        link_out(&mut self.nodes, slot, (before, after), self.spare);
+        self.ends[cursor.chain] = ends.without(before, after);
         self.spare = Some(slot);
         self.free += 1;
-        cursor.slot = member.next;
-        member.item
+        cursor.slot = after;
+        item
     }
 
     /// Puts an item before the cursor, which then stands at it. At the end of a chain, the item becomes

@@ -188,28 +188,21 @@ pub(crate) fn link_in<T: Copy>(nodes: &mut Vec<Node<T>>, slot: u16, member: Memb
     nodes[usize::from(slot)] = Node::Taken(member);
 }
 
-// Takes a member out of the slot, links those before and after it to each other, and puts the slot
+// Takes the member out of the slot, links those before and after it to each other, and puts the slot
 // before `spare` in the free list.
 pub(crate) fn link_out<T: Copy>(
     nodes: &mut Vec<Node<T>>,
     slot: u16,
-    member: Member<T>,
+    links: (Option<u16>, Option<u16>),
     spare: Option<u16>,
 )
     requires slot { slot < length nodes.old.items }
-    requires before { IsWithin nodes.old.items member.previous }
-    requires after { IsWithin nodes.old.items member.next }
+    requires before { IsWithin nodes.old.items links.0 }
+    requires after { IsWithin nodes.old.items links.1 }
     ensures { nodes.new.items
-        ≡ slice_set (relinked nodes.old.items member.previous member.next member.previous member.next) slot
-        (Node.Free spare) }
+        ≡ slice_set (relinked nodes.old.items links.0 links.1 links.0 links.1) slot (Node.Free spare) }
 {
-    relink(
-        nodes,
-        member.previous,
-        member.next,
-        member.previous,
-        member.next,
-    );
+    relink(nodes, links.0, links.1, links.0, links.1);
     nodes[usize::from(slot)] = Node::Free(spare);
 }
 

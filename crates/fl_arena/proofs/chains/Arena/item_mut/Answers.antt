@@ -1,4 +1,4 @@
-use Rattle.std.proofs.Common.{IsSome, Some, ◌<◌, length, ap, sym, subst, ◌∙◌, set, unwrap_or, refl, arith}
+use Rattle.std.proofs.Common.{IsSome, ◌<◌, length, sym, subst, ◌∙◌, set, unwrap_or, refl, arith}
 use Rattle.std.proofs.lemmas.Option.{slice_get_within}
 use Rattle.fl_arena.specs.Chains.{entries}
 use Rattle.fl_arena.specs.Inside.Links.{item_in}
