@@ -319,6 +319,7 @@ static void end_mount(void)
 {
     place_unmount(&it.place, true);
     record_remove();
+    place_leave(&it.place);
     carrier_stop();
 }
 
@@ -335,6 +336,7 @@ static int end_by(int signal)
     carrier_stop();
     say("ended with %u files open, and their locks are lost, of processes %s", count, holders_text(&holders));
     record_release();
+    place_leave(&it.place);
     return STATUS_LOST;
 }
 
@@ -349,6 +351,7 @@ static void leave_dead(const struct holders *holders)
         say("%s stays unusable, so that nobody takes these locks meanwhile: end the processes and mount again, or `umount -l` it",
             it.place.path);
     record_release();
+    place_leave(&it.place);
 }
 
 static int say_unexpected(enum end end, int fault)

@@ -109,7 +109,7 @@ struct place {
 };
 
 // Opens the folder and refuses what can't be mounted at. Waits for an earlier mount of it until
-// `grace` seconds are over.
+// `grace` seconds are over, and at least a moment.
 void place_open(struct place *place, const struct options *options, bool (*stops)(void));
 // Mounts, and gives the open device, or -1 with a line said.
 int place_mount(struct place *place, const struct options *options);
@@ -117,6 +117,8 @@ int place_mount(struct place *place, const struct options *options);
 bool place_is_mounted(const struct place *place);
 // Unmounts, or tries to: `force` takes it away from under open files.
 bool place_unmount(const struct place *place, bool force);
+// Lets the next carrier have the folder.
+void place_leave(struct place *place);
 // Whether a name can be looked up there. `stops` says whether to give up.
 bool place_answers(const struct place *place, bool (*stops)(void));
 

@@ -18,6 +18,7 @@
 
 enum { STEP = 50000 }; // microseconds between two tries
 enum { PATIENCE = 10 }; // seconds until a lookup has to be answered
+enum { MOMENT = 1 }; // seconds that an earlier mount may take to end, also without a grace
 
 // ---- fusermount3 ----
 
@@ -169,6 +170,12 @@ bool place_unmount(const struct place *place, bool force)
     return !place_is_mounted(place) || unmount(place->path, place->is_root, force);
 }
 
+void place_leave(struct place *place)
+{
+    close(place->folder);
+    place->folder = -1;
+}
+
 // ---- Before it is mounted ----
 
 static void refuse_nonempty(const struct place *place)
@@ -243,16 +250,17 @@ static bool take_folder(struct place *place)
     return !flock(place->folder, LOCK_EX | LOCK_NB) || errno != EWOULDBLOCK;
 }
 
-// Whether it can be mounted at. Else `why` says what is in the way, which may go.
-static bool is_ready(struct place *place, const struct options *options, char *why, size_t size)
+// Whether it can be mounted at. Else `why` says what is in the way, which may go, and `patience` how many seconds that may take.
+static bool is_ready(struct place *place, const struct options *options, char *why, size_t size, long *patience)
 {
     struct holders holders = {0};
     dev_t device = open_folder(place, options->folder);
     enum record record = record_take(place->path);
     const char *rest = "";
+    *patience = MOMENT;
     if (record == RECORD_TAKEN && find_mounts(getpid(), device, place->path).here) {
-        errno = 0;
-        fail("%s is mounted by lockd_mount already", place->path);
+        snprintf(why, size, "%s is mounted by lockd_mount already", place->path);
+        return false;
     }
     if (record == RECORD_TAKEN || (is_free(place, options, record, &holders) && !take_folder(place)))
         rest = "another lockd_mount, whose mount was taken away, still serves open files";
@@ -260,6 +268,8 @@ static bool is_ready(struct place *place, const struct options *options, char *w
         rest = "files are still open there, and who has them thinks that he holds his locks";
     if (!*rest)
         return true;
+    if (options->grace > MOMENT)
+        *patience = options->grace;
     snprintf(why, size, "an earlier mount of %s isn't over: %s; processes %s", place->path, rest, holders_text(&holders));
     record_release();
     return false;
@@ -268,15 +278,17 @@ static bool is_ready(struct place *place, const struct options *options, char *w
 void place_open(struct place *place, const struct options *options, bool (*stops)(void))
 {
     char why[PATH_MAX + 512];
-    double last = seconds() + (double)options->grace;
+    long patience;
+    double begun = seconds();
     *place = (struct place){.folder = -1, .is_root = !geteuid()};
-    for (bool said = false; !is_ready(place, options, why, sizeof why); said = true) {
-        if (stops() || seconds() >= last) {
+    for (bool said = false; !is_ready(place, options, why, sizeof why, &patience);) {
+        if (stops() || seconds() >= begun + (double)patience) {
             errno = 0;
             fail("%s", why);
         }
-        if (!said)
-            say("%s; waiting %ld seconds at most", why, options->grace);
+        if (!said && patience > MOMENT)
+            say("%s; waiting %ld seconds at most", why, patience);
+        said = said || patience > MOMENT;
         usleep(STEP);
     }
     if (!options->nonempty)

@@ -24,6 +24,23 @@ def mounts_again(folder):
     same(mount.end(), (0, "legal"))
 
 
+def try_a_mount_that_ends_or_is_killed_is_followed_at_once():
+    """One without a grace waits a moment for it: it hears of its end late, or isn't gone yet."""
+    folder = tempfile.mkdtemp(dir=WORK)
+    for at in range(4):
+        mount = Mount(folder=folder)
+        shell(mount, "flock held echo in", "in")
+        has_closed_files(folder)
+        if at % 2:
+            mount.running.kill()
+        else:
+            unmount(folder)
+        again = Mount(folder=folder)
+        shell(again, "flock -n held echo in", "in")
+        same(again.end(), (0, "legal"))
+        mount.running.wait(PATIENCE)
+
+
 def try_end_by_umount():
     mount = Mount()
     shell(mount, "flock job echo in", "in")
