@@ -4,8 +4,7 @@ use Rattle.std.proofs.Common.{subst, inl, inr, arith, length-set}
 use Rattle.std.proofs.lemmas.Bool.{cases_eq}
 use Rattle.fl_arena.specs.Chains.{Entry, Chains, entries, with_entries}
 use Rattle.fl_arena.specs.Inside.Links.{is_free, link_at, member_of, SpellsChain, SpellsFree, IsOnChain, Spells}
-use Rattle.fl_arena.specs.declared.nodes.Node.{Node}
-use Rattle.fl_arena.specs.declared.nodes.Node.TheVariants.{Taken}
+use Rattle.fl_arena.specs.Inside.Held.{Held, Taken}
 use Rattle.fl_arena.specs.declared.nodes.Member.{Member}
 use Rattle.fl_arena.specs.declared.nodes.Ends.{Ends}
 use Rattle.fl_arena.proofs.ReadLemmas.{slice_get-set_same, slice_get-set_other}
@@ -22,12 +21,12 @@ module _ {T : Type 0} where
   on_other a c d t es apart p =
       record { index = p.index; found = subst (λ (xs : List (Entry T)). link_at xs p.index ≡ Some t) (sym (entries-with_other a c d es apart)) p.found }
 
-  pub chain_kept : (old new : List (Node T)) (c : ℕ) (ends : Ends) (es : List (Entry T)) → SpellsChain old c ends es →
+  pub chain_kept : (old new : List (Held T)) (c : ℕ) (ends : Ends) (es : List (Entry T)) → SpellsChain old c ends es →
       ((j : ℕ) (x : Entry T) → slice_get es j ≡ Some x → slice_get new x.slot ≡ Some (Taken (member_of c es j x))) → SpellsChain new c ends es
   chain_kept old new c ends es h reads = record { first = h.first; last = h.last; len = h.len; linked = reads }
 
-module _ {T : Type 0} (nodes : List (Node T)) (ends : List Ends) (spare : Option ℕ) (free : ℕ) (a : Chains T) (h : Spells nodes ends spare free a) (c : ℕ)
-    (within : c < length a.chains) (now : List (Node T)) (end : Ends) (es : List (Entry T)) (link : Option ℕ) (left : ℕ) where
+module _ {T : Type 0} (nodes : List (Held T)) (ends : List Ends) (spare : Option ℕ) (free : ℕ) (a : Chains T) (h : Spells nodes ends spare free a) (c : ℕ)
+    (within : c < length a.chains) (now : List (Held T)) (end : Ends) (es : List (Entry T)) (link : Option ℕ) (left : ℕ) where
   pub assembled : length now ≡ length nodes → SpellsChain now c end es →
       ((d j : ℕ) (x : Entry T) → d ≢ c → slice_get (entries a d) j ≡ Some x → slice_get now x.slot ≡ Some (Taken (member_of d (entries a d) j x))) →
       ((t : ℕ) (m : Member T) → slice_get now t ≡ Some (Taken m) → IsOnChain (with_entries a c es) t m.chain) → SpellsFree now link left →

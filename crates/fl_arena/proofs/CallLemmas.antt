@@ -8,11 +8,10 @@ use Rattle.std.proofs.lemmas.List.Sums.{sum_by-cons}
 use Rattle.std.proofs.lemmas.Option.{slice_get_read, slice_get_within, slice_get-get_or, none-some}
 use Rattle.fl_arena.specs.Chains.{Entry, Chains, entries, slot_at, with_entries}
 use Rattle.fl_arena.specs.Cursors.{cursor_at, IsInPlace, index_of, item_of, with_item, without}
-use Rattle.fl_arena.specs.Inside.Links.{link_at, link_before, item_in, node_with, relinked, ends_with, ends_without, IsSpare, SpellsChain}
+use Rattle.fl_arena.specs.Inside.Links.{link_at, link_before, item_in, held_with, relinked, ends_with, ends_without, IsSpare, SpellsChain}
 use Rattle.fl_arena.specs.Inside.Links.{SpellsFree, AreFree, Spells, spelled}
 use Rattle.fl_arena.specs.declared.cursors.Cursor.{Cursor}
-use Rattle.fl_arena.specs.declared.nodes.Node.{Node}
-use Rattle.fl_arena.specs.declared.nodes.Node.TheVariants.{Free, Taken}
+use Rattle.fl_arena.specs.Inside.Held.{Held, Free, Taken}
 use Rattle.fl_arena.specs.declared.nodes.Member.{Member}
 use Rattle.fl_arena.specs.declared.nodes.Ends.{Ends}
 use Rattle.fl_arena.proofs.ChainLaws.{entries-with_same}
@@ -33,16 +32,16 @@ no_items T (suc n) = omega (arith, no_items T n, sum_by-cons (λ (es : List (Ent
 
 module _ {T : Type 0} where
   -- the links spell the value that contracts see
-  pub spells_value : (nodes : List (Node T)) (ends : List Ends) (spare : Option ℕ) (free : ℕ) (a : Chains T) →
+  pub spells_value : (nodes : List (Held T)) (ends : List Ends) (spare : Option ℕ) (free : ℕ) (a : Chains T) →
       Spells nodes ends spare free (spelled nodes ends) → spelled nodes ends ≡ a → Spells nodes ends spare free a
   spells_value nodes ends spare free a h e = subst (λ (x : Chains T). Spells nodes ends spare free x) e h
 
   -- and the other way round
-  pub spells_own : (nodes : List (Node T)) (ends : List Ends) (spare : Option ℕ) (free : ℕ) (a : Chains T) → Spells nodes ends spare free a →
+  pub spells_own : (nodes : List (Held T)) (ends : List Ends) (spare : Option ℕ) (free : ℕ) (a : Chains T) → Spells nodes ends spare free a →
       Spells nodes ends spare free (spelled nodes ends)
   spells_own nodes ends spare free a h = subst (λ (x : Chains T). Spells nodes ends spare free x) (sym (spelled_is nodes ends spare free a h)) h
 
-module _ {T : Type 0} (nodes : List (Node T)) (ends : List Ends) (spare : Option ℕ) (free : ℕ) (a : Chains T) (h : Spells nodes ends spare free a)
+module _ {T : Type 0} (nodes : List (Held T)) (ends : List Ends) (spare : Option ℕ) (free : ℕ) (a : Chains T) (h : Spells nodes ends spare free a)
     (cursor : Cursor) (in_place : IsInPlace a cursor) where
   pub got : (slot : ℕ) (m : Member T) → cursor.slot ≡ Some slot → slice_get nodes slot ≡ Some (Taken m) → Some m.item ≡ item_of a cursor
   got slot m named read =
@@ -88,8 +87,8 @@ module _ {T : Type 0} (nodes : List (Node T)) (ends : List Ends) (spare : Option
       rw index (spells.last, spells.len)
 
 module _ {T : Type 0} where
-  pub inserted : (nodes : List (Node T)) (ends : List Ends) (free : ℕ) (a : Chains T) (c i slot : ℕ) (y : T) (next before after : Option ℕ) (e end : Ends)
-      (now : List (Node T)) → Spells nodes ends (Some slot) free a → c < length a.chains → i ≤ length (entries a c) → slice_get nodes slot ≡ Some (Free next) →
+  pub inserted : (nodes : List (Held T)) (ends : List Ends) (free : ℕ) (a : Chains T) (c i slot : ℕ) (y : T) (next before after : Option ℕ) (e end : Ends)
+      (now : List (Held T)) → Spells nodes ends (Some slot) free a → c < length a.chains → i ≤ length (entries a c) → slice_get nodes slot ≡ Some (Free next) →
       slice_get ends c ≡ Some e → before ≡ link_before (entries a c) i → after ≡ link_at (entries a c) i →
       now ≡ set (relinked nodes before after (Some slot) (Some slot)) slot (Taken (record { chain = c; previous = before; next = after; item = y })) →
       end ≡ ends_with e before after slot →
@@ -98,8 +97,8 @@ module _ {T : Type 0} where
       let whole = Spells-insert nodes ends free a c i slot y next e h in_chains within read found in
       rw (written, ended, back, on) whole
 
-  pub removed : (nodes : List (Node T)) (ends : List Ends) (spare : Option ℕ) (free : ℕ) (a : Chains T) (c i slot : ℕ) (before after : Option ℕ) (e end : Ends)
-      (now : List (Node T)) → Spells nodes ends spare free a → slot_at a c i ≡ Some slot → slot < length nodes → c < length a.chains →
+  pub removed : (nodes : List (Held T)) (ends : List Ends) (spare : Option ℕ) (free : ℕ) (a : Chains T) (c i slot : ℕ) (before after : Option ℕ) (e end : Ends)
+      (now : List (Held T)) → Spells nodes ends spare free a → slot_at a c i ≡ Some slot → slot < length nodes → c < length a.chains →
       i < length (entries a c) → slice_get ends c ≡ Some e → before ≡ link_before (entries a c) i → after ≡ link_at (entries a c) (suc i) →
       now ≡ set (relinked nodes before after before after) slot (Free spare) → end ≡ ends_without e before after →
       Spells now (set ends c end) (Some slot) (free + 1) (with_entries a c (remove (entries a c) i))
@@ -116,7 +115,7 @@ module _ {T : Type 0} where
       on ∙ (sym (link_at-remove_above (entries a c) i i (omega arith)) ∙ ap (λ (es : List (Entry T)). link_at es i) (sym same)) in
       ap (λ (l : Option ℕ). record { chain = c; index = i; slot = l }) slot
 
-  pub changed : (nodes : List (Node T)) (ends : List Ends) (spare : Option ℕ) (free : ℕ) (a : Chains T) (cursor : Cursor) (slot at : ℕ) (y : T) (m : Member T) →
+  pub changed : (nodes : List (Held T)) (ends : List Ends) (spare : Option ℕ) (free : ℕ) (a : Chains T) (cursor : Cursor) (slot at : ℕ) (y : T) (m : Member T) →
       Spells nodes ends spare free a → IsInPlace a cursor → cursor.slot ≡ Some slot → slice_get nodes slot ≡ Some (Taken m) → at ≡ slot →
       Spells (set nodes at (Taken (record m { item = y }))) ends spare free (with_item a cursor y)
   changed nodes ends spare free a cursor slot at y m h in_place named read same =
@@ -127,13 +126,13 @@ module _ {T : Type 0} where
       rw (same, named) (Spells-set nodes ends spare free a h cursor.chain cursor.index slot y m there read _ found in_chains)
 
   -- the node at a cursor, as it was read
-  pub record IsRead (nodes : List (Node T)) (a : Chains T) (cursor : Cursor) (slot : ℕ) (n : Node T) : Type 0 where
+  pub record IsRead (nodes : List (Held T)) (a : Chains T) (cursor : Cursor) (slot : ℕ) (n : Held T) : Type 0 where
     pub member : Member T
     pub there : slice_get nodes slot ≡ Some (Taken member)
     pub is : n ≡ Taken member
     pub item : item_of a cursor ≡ item_in n
 
-  pub node_read : (nodes : List (Node T)) (ends : List Ends) (spare : Option ℕ) (free : ℕ) (a : Chains T) (cursor : Cursor) (slot at : ℕ) (n : Node T) →
+  pub node_read : (nodes : List (Held T)) (ends : List Ends) (spare : Option ℕ) (free : ℕ) (a : Chains T) (cursor : Cursor) (slot at : ℕ) (n : Held T) →
       Spells nodes ends spare free a → IsInPlace a cursor → cursor.slot ≡ Some slot → at ≡ slot → n ≡ get_or nodes at n → IsRead nodes a cursor slot n
   node_read nodes ends spare free a cursor slot at n h in_place named same read =
       let there = (linked_at nodes ends spare free a h cursor.chain cursor.index slot (slot_there a cursor slot named in_place)).linked in
@@ -148,15 +147,15 @@ module _ {T : Type 0} where
       }
 
   -- the links after another item was left in that node
-  pub left : (nodes : List (Node T)) (ends : List Ends) (spare : Option ℕ) (free : ℕ) (a : Chains T) (cursor : Cursor) (slot at : ℕ) (n : Node T) (y : T) →
+  pub left : (nodes : List (Held T)) (ends : List Ends) (spare : Option ℕ) (free : ℕ) (a : Chains T) (cursor : Cursor) (slot at : ℕ) (n : Held T) (y : T) →
       Spells nodes ends spare free a → IsInPlace a cursor → cursor.slot ≡ Some slot → at ≡ slot → n ≡ get_or nodes at n →
-      Spells (set nodes at (node_with n y)) ends spare free (with_item a cursor y)
+      Spells (set nodes at (held_with n y)) ends spare free (with_item a cursor y)
   left nodes ends spare free a cursor slot at n y h in_place named same read =
       let node = node_read nodes ends spare free a cursor slot at n h in_place named same read in
-      subst (λ (x : Node T). Spells (set nodes at (node_with x y)) ends spare free (with_item a cursor y)) (sym node.is)
+      subst (λ (x : Held T). Spells (set nodes at (held_with x y)) ends spare free (with_item a cursor y)) (sym node.is)
       (changed nodes ends spare free a cursor slot at y node.member h in_place named node.there same)
 
-  empty_at : (nodes : List (Node T)) (n c d : ℕ) (e : Ends) → slice_get (replicate n (record { first = None; last = None; len = 0 })) c ≡ Some e →
+  empty_at : (nodes : List (Held T)) (n c d : ℕ) (e : Ends) → slice_get (replicate n (record { first = None; last = None; len = 0 })) c ≡ Some e →
       SpellsChain nodes d e (get_or {A = List (Entry T)} (replicate n []) c [])
   empty_at nodes zero c d e found = absurd (none-some e found)
   empty_at nodes (suc n) zero d e found =
@@ -165,7 +164,7 @@ module _ {T : Type 0} where
   empty_at nodes (suc n) (suc c) d e found = empty_at nodes n c d e found
 
   -- an arena as it is made
-  pub made : (nodes : List (Node T)) (spare : Option ℕ) (slots count : ℕ) → AreFree nodes spare slots → slots ≤ 2 ^ 16 → count ≤ 2 ^ 16 →
+  pub made : (nodes : List (Held T)) (spare : Option ℕ) (slots count : ℕ) → AreFree nodes spare slots → slots ≤ 2 ^ 16 → count ≤ 2 ^ 16 →
       Spells nodes (replicate count (record { first = None; last = None; len = 0 })) spare slots (record { chains = replicate count []; slots = slots })
   made nodes spare slots count h few_slots few_chains = record {
     slots = sym h.len;
@@ -180,14 +179,14 @@ module _ {T : Type 0} where
   }
 
   -- the first slot of the free list is free
-  pub spare_is_free : (nodes : List (Node T)) (spare : Option ℕ) (free slot : ℕ) → spare ≡ Some slot → SpellsFree nodes spare free → IsSpare nodes slot
+  pub spare_is_free : (nodes : List (Held T)) (spare : Option ℕ) (free slot : ℕ) → spare ≡ Some slot → SpellsFree nodes spare free → IsSpare nodes slot
   spare_is_free nodes spare zero slot named h = let none = sym h ∙ named in cc
   spare_is_free nodes spare (suc free) slot named h =
       let same : h.0 ≡ slot = let both = sym h.2 ∙ named in cc in
       (h.1, subst (λ (s : ℕ). slice_get nodes s ≡ Some (Free h.1)) same h.3)
 
   -- while a slot is free, no chain fills the slots
-  pub room : (nodes : List (Node T)) (ends : List Ends) (spare : Option ℕ) (free : ℕ) (a : Chains T) → Spells nodes ends spare free a →
+  pub room : (nodes : List (Held T)) (ends : List Ends) (spare : Option ℕ) (free : ℕ) (a : Chains T) → Spells nodes ends spare free a →
       (c : ℕ) (e : Ends) (slot : ℕ) → slice_get ends c ≡ Some e → spare ≡ Some slot → e.len < 65536
   room nodes ends spare free a h c e slot found named =
       let some = some_free spare free slot named h.free_list in
@@ -211,7 +210,7 @@ module _ {T : Type 0} where
       ap (λ (l : Option ℕ). record { chain = c; index = i; slot = l }) slot
 
   -- a link of a chain names a slot of the arena
-  pub within_slots : (nodes : List (Node T)) (ends : List Ends) (spare : Option ℕ) (free : ℕ) (a : Chains T) → Spells nodes ends spare free a →
+  pub within_slots : (nodes : List (Held T)) (ends : List Ends) (spare : Option ℕ) (free : ℕ) (a : Chains T) → Spells nodes ends spare free a →
       (c i : ℕ) (link : Option ℕ) → link ≡ slot_at a c i → IfSome link (λ slot. slot < a.slots)
   within_slots nodes ends spare free a h c i link e = rw (e, h.slots) (linked_within nodes ends spare free a h c i)
 
@@ -220,11 +219,11 @@ module _ {T : Type 0} where
   last_link [] = refl
   last_link (e ∷ es) = ap (link_at (e ∷ es)) (omega arith)
 
-  pub last_slot : (nodes : List (Node T)) (ends : List Ends) (spare : Option ℕ) (free : ℕ) (a : Chains T) → Spells nodes ends spare free a →
+  pub last_slot : (nodes : List (Held T)) (ends : List Ends) (spare : Option ℕ) (free : ℕ) (a : Chains T) → Spells nodes ends spare free a →
       (c : ℕ) (e : Ends) → slice_get ends c ≡ Some e → e.last ≡ slot_at a c (length (entries a c) - 1)
   last_slot nodes ends spare free a h c e found = (h.each c e found).last ∙ last_link (entries a c)
 
-  pub last_read : (nodes : List (Node T)) (ends : List Ends) (spare : Option ℕ) (free : ℕ) (a : Chains T) → Spells nodes ends spare free a →
+  pub last_read : (nodes : List (Held T)) (ends : List Ends) (spare : Option ℕ) (free : ℕ) (a : Chains T) → Spells nodes ends spare free a →
       (c : ℕ) (e : Ends) → slice_get ends c ≡ Some e → (i : ℕ) → i ≡ e.len - 1 →
       record { chain = c; index = i; slot = e.last } ≡ cursor_at a c (length (entries a c) - 1)
   last_read nodes ends spare free a h c e found i is =

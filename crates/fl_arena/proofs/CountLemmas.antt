@@ -10,8 +10,7 @@ use Rattle.std.proofs.lemmas.Option.{slice_get_within, get_or_from_slice_get, sl
 use Rattle.std.proofs.lemmas.Map.Keys.{any_passes_from_place}
 use Rattle.fl_arena.specs.Chains.{Entry, Chains, entries, slot_at, is_linked, unlinked_count, IsLinked}
 use Rattle.fl_arena.specs.Inside.Links.{alter, alter_link, with_next, with_previous, relinked, is_free, Spells}
-use Rattle.fl_arena.specs.declared.nodes.Node.{Node}
-use Rattle.fl_arena.specs.declared.nodes.Node.TheVariants.{Free, Taken}
+use Rattle.fl_arena.specs.Inside.Held.{Held, Free, Taken}
 use Rattle.fl_arena.specs.declared.nodes.Ends.{Ends}
 use Rattle.fl_arena.proofs.PlaceLemmas.{linked_at, chain_within, same_place}
 
@@ -62,15 +61,15 @@ module _ {X : Type 0} where
       ∙ (ap (λ (n : ℕ). cond (p x) 1 0 + n) later ∙ sym (count-cons p x xs)))
 
 module _ {T : Type 0} where
-  next_keeps : (link : Option ℕ) (x : Node T) → is_free (with_next link x) ≡ is_free x
+  next_keeps : (link : Option ℕ) (x : Held T) → is_free (with_next link x) ≡ is_free x
   next_keeps link (Free next) = refl
   next_keeps link (Taken m) = refl
 
-  previous_keeps : (link : Option ℕ) (x : Node T) → is_free (with_previous link x) ≡ is_free x
+  previous_keeps : (link : Option ℕ) (x : Held T) → is_free (with_previous link x) ≡ is_free x
   previous_keeps link (Free next) = refl
   previous_keeps link (Taken m) = refl
 
-  pub count-relinked : (nodes : List (Node T)) (before after previous next : Option ℕ) →
+  pub count-relinked : (nodes : List (Held T)) (before after previous next : Option ℕ) →
       count_by is_free (relinked nodes before after previous next) ≡ count_by is_free nodes
   count-relinked nodes before after previous next =
       count-alter_link is_free (with_previous previous) (previous_keeps previous) (alter_link (with_next next) nodes before) after
@@ -94,7 +93,7 @@ module _ {T : Type 0} where
       (any_passes_from_place (λ (x : Entry T). eqb x.slot e.slot) (entries a c) i e found (eq-eqb e.slot e.slot refl))
 
   -- the free slots are those on no chain
-  pub unlinked : (nodes : List (Node T)) (ends : List Ends) (spare : Option ℕ) (free : ℕ) (a : Chains T) → Spells nodes ends spare free a →
+  pub unlinked : (nodes : List (Held T)) (ends : List Ends) (spare : Option ℕ) (free : ℕ) (a : Chains T) → Spells nodes ends spare free a →
       free ≡ unlinked_count a
   unlinked nodes ends spare free a h =
       sym (ap (λ (n : ℕ). count_by (λ (slot : ℕ). not (is_linked a slot)) (range_with_len 0 n)) h.slots
@@ -104,7 +103,7 @@ module _ {T : Type 0} where
       zero_plus : (i : ℕ) → 0 + i ≡ i
       zero_plus i = omega arith
 
-      at_node : (i : ℕ) (x : Node T) → slice_get nodes i ≡ Some x → not (is_linked a i) ≡ is_free x
+      at_node : (i : ℕ) (x : Held T) → slice_get nodes i ≡ Some x → not (is_linked a i) ≡ is_free x
       at_node i (Free next) found =
           ap not (false_from_ne_true (is_linked a i) (λ e.
           let place = linked_place a i e in
@@ -115,7 +114,7 @@ module _ {T : Type 0} where
           ap not (ap (is_linked a) (sym at.slot_is) ∙ linked_from a m.chain on.index at.entry (chain_within a m.chain on.index at.entry at.found) at.found)
 
   -- no slot is linked twice
-  pub linked_once : (nodes : List (Node T)) (ends : List Ends) (spare : Option ℕ) (free : ℕ) (a : Chains T) → Spells nodes ends spare free a → IsLinked a
+  pub linked_once : (nodes : List (Held T)) (ends : List Ends) (spare : Option ℕ) (free : ℕ) (a : Chains T) → Spells nodes ends spare free a → IsLinked a
   linked_once nodes ends spare free a h = record {
     in_range = λ c i slot there.
         let within = slice_get_within nodes slot _ (linked_at nodes ends spare free a h c i slot there).linked in

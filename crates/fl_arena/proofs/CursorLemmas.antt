@@ -10,8 +10,7 @@ use Rattle.fl_arena.specs.Chains.{Entry, Chains, entries, items, slot_at, item_c
 use Rattle.fl_arena.specs.Cursors.{IsInPlace}
 use Rattle.fl_arena.specs.Inside.Links.{link_at, link_before, IsTaken, IsWithin, Spells}
 use Rattle.fl_arena.specs.declared.cursors.Cursor.{Cursor}
-use Rattle.fl_arena.specs.declared.nodes.Node.{Node}
-use Rattle.fl_arena.specs.declared.nodes.Node.TheVariants.{Taken}
+use Rattle.fl_arena.specs.Inside.Held.{Held, Taken}
 use Rattle.fl_arena.specs.declared.nodes.Member.{Member}
 use Rattle.fl_arena.specs.declared.nodes.Ends.{Ends}
 use Rattle.fl_arena.proofs.PlaceLemmas.{linked_at, chain_within, same_member}
@@ -28,7 +27,7 @@ module _ {T : Type 0} where
       ]
 
   -- the member that the slot at this index of a chain has
-  pub record IsAt (nodes : List (Node T)) (a : Chains T) (c i slot : ℕ) (m : Member T) : Type 0 where
+  pub record IsAt (nodes : List (Held T)) (a : Chains T) (c i slot : ℕ) (m : Member T) : Type 0 where
     pub in_nodes : slot < length nodes
     pub in_chains : c < length a.chains
     pub in_chain : i < length (entries a c)
@@ -38,7 +37,7 @@ module _ {T : Type 0} where
     pub next : m.next ≡ slot_at a c (suc i)
     pub item : slice_get (items a c) i ≡ Some m.item
 
-  pub is_at : (nodes : List (Node T)) (ends : List Ends) (spare : Option ℕ) (free : ℕ) (a : Chains T) → Spells nodes ends spare free a →
+  pub is_at : (nodes : List (Held T)) (ends : List Ends) (spare : Option ℕ) (free : ℕ) (a : Chains T) → Spells nodes ends spare free a →
       (c i slot : ℕ) (m : Member T) → slot_at a c i ≡ Some slot → slice_get nodes slot ≡ Some (Taken m) → IsAt nodes a c i slot m
   is_at nodes ends spare free a h c i slot m there read =
       let at = linked_at nodes ends spare free a h c i slot there in
@@ -57,7 +56,7 @@ module _ {T : Type 0} where
             ∙ (ap (option_map (λ (e : Entry T). e.item)) at.found ∙ ap Some (ap (λ (x : Member T). x.item) same));
       }
 
-  pub is_taken : (nodes : List (Node T)) (ends : List Ends) (spare : Option ℕ) (free : ℕ) (a : Chains T) → Spells nodes ends spare free a → (c i slot : ℕ) →
+  pub is_taken : (nodes : List (Held T)) (ends : List Ends) (spare : Option ℕ) (free : ℕ) (a : Chains T) → Spells nodes ends spare free a → (c i slot : ℕ) →
       slot_at a c i ≡ Some slot → IsTaken nodes slot
   is_taken nodes ends spare free a h c i slot there =
       let at = linked_at nodes ends spare free a h c i slot there in
@@ -67,7 +66,7 @@ module _ {T : Type 0} where
   pub slot_there : (a : Chains T) (cursor : Cursor) (slot : ℕ) → cursor.slot ≡ Some slot → IsInPlace a cursor → slot_at a cursor.chain cursor.index ≡ Some slot
   slot_there a cursor slot named h = rw named at h
 
-  pub linked_within : (nodes : List (Node T)) (ends : List Ends) (spare : Option ℕ) (free : ℕ) (a : Chains T) → Spells nodes ends spare free a → (c i : ℕ) →
+  pub linked_within : (nodes : List (Held T)) (ends : List Ends) (spare : Option ℕ) (free : ℕ) (a : Chains T) → Spells nodes ends spare free a → (c i : ℕ) →
       IsWithin nodes (link_at (entries a c) i)
   linked_within nodes ends spare free a h c i = by_link (link_at (entries a c) i) refl
     where
@@ -75,7 +74,7 @@ module _ {T : Type 0} where
       by_link None e = tt
       by_link (Some slot) e = slice_get_within nodes slot _ (linked_at nodes ends spare free a h c i slot (sym e)).linked
 
-  pub before_within : (nodes : List (Node T)) (ends : List Ends) (spare : Option ℕ) (free : ℕ) (a : Chains T) → Spells nodes ends spare free a → (c i : ℕ) →
+  pub before_within : (nodes : List (Held T)) (ends : List Ends) (spare : Option ℕ) (free : ℕ) (a : Chains T) → Spells nodes ends spare free a → (c i : ℕ) →
       IsWithin nodes (link_before (entries a c) i)
   before_within nodes ends spare free a h c zero = tt
   before_within nodes ends spare free a h c (suc i) = linked_within nodes ends spare free a h c i

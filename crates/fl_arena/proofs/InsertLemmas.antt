@@ -11,8 +11,7 @@ use Rattle.std.proofs.lemmas.Option.{slice_get_within, slice_get_past}
 use Rattle.fl_arena.specs.Chains.{Entry, Chains, entries, slot_at, with_entries}
 use Rattle.fl_arena.specs.Inside.Links.{is_free, ends_with, link_at, link_before, member_of, relinked, SpellsChain}
 use Rattle.fl_arena.specs.Inside.Links.{SpellsFree, IsOnChain, Spells}
-use Rattle.fl_arena.specs.declared.nodes.Node.{Node}
-use Rattle.fl_arena.specs.declared.nodes.Node.TheVariants.{Free, Taken}
+use Rattle.fl_arena.specs.Inside.Held.{Held, Free, Taken}
 use Rattle.fl_arena.specs.declared.nodes.Member.{Member}
 use Rattle.fl_arena.specs.declared.nodes.Ends.{Ends}
 use Rattle.fl_arena.proofs.ReadLemmas.{slice_get-set_same, slice_get-set_other, slice_get-insert_below}
@@ -77,14 +76,14 @@ module _ {T : Type 0} where
   abbrev pub entry_in : ℕ → T → Entry T
   entry_in slot y = record { slot = slot; item = y }
 
-  abbrev pub node_in : ℕ → List (Entry T) → ℕ → T → Node T
+  abbrev pub node_in : ℕ → List (Entry T) → ℕ → T → Held T
   node_in c es i y = Taken (record { chain = c; previous = link_before es i; next = link_at es i; item = y })
 
   -- the nodes after an insert
-  abbrev pub nodes_after : List (Node T) → Chains T → ℕ → ℕ → ℕ → T → List (Node T)
+  abbrev pub nodes_after : List (Held T) → Chains T → ℕ → ℕ → ℕ → T → List (Held T)
   nodes_after nodes a c i slot y = around nodes (entries a c) i i (Some slot) (Some slot) slot (node_in c (entries a c) i y)
 
-module _ {T : Type 0} (nodes : List (Node T)) (ends : List Ends) (spare : Option ℕ) (free : ℕ) (a : Chains T) (h : Spells nodes ends spare free a)
+module _ {T : Type 0} (nodes : List (Held T)) (ends : List Ends) (spare : Option ℕ) (free : ℕ) (a : Chains T) (h : Spells nodes ends spare free a)
     (c i slot : ℕ) (y : T) (within : i ≤ length (entries a c)) (unused : (d j : ℕ) → slot_at a d j ≡ Some slot → ⊥) (in_nodes : slot < length nodes) where
   -- an entry of the chain before the new one
   below_reads : (j : ℕ) (e : Entry T) → j < i → slice_get (entries a c) j ≡ Some e →
@@ -212,13 +211,13 @@ module _ {T : Type 0} (nodes : List (Node T)) (ends : List Ends) (spare : Option
 
 module _ {T : Type 0} where
   -- a free slot is on no chain
-  pub unused_slot : (nodes : List (Node T)) (ends : List Ends) (spare : Option ℕ) (free : ℕ) (a : Chains T) → Spells nodes ends spare free a →
+  pub unused_slot : (nodes : List (Held T)) (ends : List Ends) (spare : Option ℕ) (free : ℕ) (a : Chains T) → Spells nodes ends spare free a →
       (slot : ℕ) (next : Option ℕ) → slice_get nodes slot ≡ Some (Free next) → (d j : ℕ) → slot_at a d j ≡ Some slot → ⊥
   unused_slot nodes ends spare free a h slot next read d j there =
       let clash = sym read ∙ (linked_at nodes ends spare free a h d j slot there).linked in cc
 
   -- the links after an insert in the first slot of the free list
-  pub Spells-insert : (nodes : List (Node T)) (ends : List Ends) (free : ℕ) (a : Chains T) (c i slot : ℕ) (y : T) (next : Option ℕ) (e : Ends) →
+  pub Spells-insert : (nodes : List (Held T)) (ends : List Ends) (free : ℕ) (a : Chains T) (c i slot : ℕ) (y : T) (next : Option ℕ) (e : Ends) →
       Spells nodes ends (Some slot) free a → c < length a.chains → i ≤ length (entries a c) → slice_get nodes slot ≡ Some (Free next) →
       slice_get ends c ≡ Some e →
       Spells (nodes_after nodes a c i slot y) (set ends c (ends_with e (link_before (entries a c) i) (link_at (entries a c) i) slot)) next (free - 1)

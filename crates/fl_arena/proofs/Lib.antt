@@ -4,6 +4,7 @@ mod PlaceLemmas
 mod LinkLemmas
 mod WalkLemmas
 mod FreeLemmas
+mod HeldLemmas
 mod RelinkLemmas
 mod AssembleLemmas
 mod InsertLemmas

@@ -5,8 +5,7 @@ use Rattle.std.specs.Option.{option_map}
 use Rattle.std.proofs.lemmas.Bool.{cases_eq, ne_eqb}
 use Rattle.fl_arena.proofs.ReadLemmas.{slice_get-alter_same, slice_get-alter_other, length-alter}
 use Rattle.fl_arena.specs.Inside.Links.{alter_link, at_link, with_previous, with_next, relinked}
-use Rattle.fl_arena.specs.declared.nodes.Node.{Node}
-use Rattle.fl_arena.specs.declared.nodes.Node.TheVariants.{Free, Taken}
+use Rattle.fl_arena.specs.Inside.Held.{Held, Free, Taken}
 use Rattle.fl_arena.specs.declared.nodes.Member.{Member}
 
 module _ {A : Type 0} where
@@ -42,16 +41,16 @@ module _ {A : Type 0} where
   length-alter_link f xs (Some slot) = length-alter f xs slot
 
 module _ {T : Type 0} where
-  pub length-relinked : (nodes : List (Node T)) (before after previous next : Option ℕ) → length (relinked nodes before after previous next) ≡ length nodes
+  pub length-relinked : (nodes : List (Held T)) (before after previous next : Option ℕ) → length (relinked nodes before after previous next) ≡ length nodes
   length-relinked nodes before after previous next =
       length-alter_link (with_previous previous) (alter_link (with_next next) nodes before) after
       ∙ length-alter_link (with_next next) nodes before
 
-  pub as_long : (nodes now : List (Node T)) (before after previous next : Option ℕ) → now ≡ relinked nodes before after previous next →
+  pub as_long : (nodes now : List (Held T)) (before after previous next : Option ℕ) → now ≡ relinked nodes before after previous next →
       length now ≡ length nodes
   as_long nodes now before after previous next e = ap length e ∙ length-relinked nodes before after previous next
 
-  pub taken_in_relinked : (nodes : List (Node T)) (before after previous next : Option ℕ) (slot : ℕ) (m : Member T) → slice_get nodes slot ≡ Some (Taken m) →
+  pub taken_in_relinked : (nodes : List (Held T)) (before after previous next : Option ℕ) (slot : ℕ) (m : Member T) → slice_get nodes slot ≡ Some (Taken m) →
       slice_get (relinked nodes before after previous next) slot
       ≡ Some (Taken (record m { previous = at_link after slot previous m.previous; next = at_link before slot next m.next }))
   taken_in_relinked nodes before after previous next slot m h =
@@ -62,7 +61,7 @@ module _ {T : Type 0} where
       slice_get-alter_link (with_previous previous) (alter_link (with_next next) nodes before) after slot (Taken n) first
       ∙ ap Some (at_link-ap (λ (l : Option ℕ). Taken (record n { previous = l })) after slot previous n.previous)
 
-  pub free_in_relinked : (nodes : List (Node T)) (before after previous next : Option ℕ) (slot : ℕ) (link : Option ℕ) →
+  pub free_in_relinked : (nodes : List (Held T)) (before after previous next : Option ℕ) (slot : ℕ) (link : Option ℕ) →
       slice_get nodes slot ≡ Some (Free link) → slice_get (relinked nodes before after previous next) slot ≡ Some (Free link)
   free_in_relinked nodes before after previous next slot link h =
       let first : slice_get (alter_link (with_next next) nodes before) slot ≡ Some (Free link) =

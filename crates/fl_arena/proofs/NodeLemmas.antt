@@ -5,8 +5,7 @@ use Rattle.std.proofs.Common.{inr, ◌⊎◌, arith, add-one, length-append}
 use Rattle.std.proofs.lemmas.List.Sums.{sum_by_push}
 use Rattle.std.proofs.lemmas.Option.{slice_get_read, none-some}
 use Rattle.fl_arena.specs.Inside.Links.{is_free, alter, alter_link, AreFree, IsWithin}
-use Rattle.fl_arena.specs.declared.nodes.Node.{Node}
-use Rattle.fl_arena.specs.declared.nodes.Node.TheVariants.{Free, Taken}
+use Rattle.fl_arena.specs.Inside.Held.{Held, Free, Taken}
 use Rattle.fl_arena.proofs.FreeLemmas.{SpellsFree-kept}
 
 module _ {X : Type 0} where
@@ -40,11 +39,11 @@ module _ {X : Type 0} where
 
 module _ {T : Type 0} where
   -- a link names a node of a list that is as long
-  pub IsWithin-same : (nodes more : List (Node T)) (link : Option ℕ) → length more ≡ length nodes → IsWithin nodes link → IsWithin more link
+  pub IsWithin-same : (nodes more : List (Held T)) (link : Option ℕ) → length more ≡ length nodes → IsWithin nodes link → IsWithin more link
   IsWithin-same nodes more None same h = h
   IsWithin-same nodes more (Some slot) same h = omega arith
 
-  pub AreFree-push : (nodes : List (Node T)) (link : Option ℕ) (count : ℕ) → AreFree nodes link count →
+  pub AreFree-push : (nodes : List (Held T)) (link : Option ℕ) (count : ℕ) → AreFree nodes link count →
       AreFree (nodes ++ Free link ∷ []) (Some count) (count + 1)
   AreFree-push nodes link count h = record {
     len = let long = h.len in omega (arith, length-append nodes (Free link ∷ []));
@@ -57,7 +56,7 @@ module _ {T : Type 0} where
           SpellsFree-kept nodes (nodes ++ Free link ∷ []) (λ slot next was. slice_get-append_left nodes (Free link ∷ []) slot (Free next) was) link count
               h.free_list,
         );
-    counted = let before = h.counted in omega (arith, sum_by_push (λ (x : Node T). cond (is_free x) 1 0) nodes (Free link));
+    counted = let before = h.counted in omega (arith, sum_by_push (λ (x : Held T). cond (is_free x) 1 0) nodes (Free link));
     untaken = λ slot m now.
         elim (pushed_cases nodes (Free link) slot (Taken m) now) [
           | inl was ↦ h.untaken slot m was

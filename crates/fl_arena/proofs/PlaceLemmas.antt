@@ -7,8 +7,7 @@ use Rattle.std.proofs.lemmas.List.{get_or_past}
 use Rattle.std.proofs.lemmas.Option.{none-some, slice_get_within, slice_get-get_or}
 use Rattle.fl_arena.specs.Chains.{Entry, Chains, entries, slot_at}
 use Rattle.fl_arena.specs.Inside.Links.{link_at, member_of, Spells}
-use Rattle.fl_arena.specs.declared.nodes.Node.{Node}
-use Rattle.fl_arena.specs.declared.nodes.Node.TheVariants.{Free, Taken}
+use Rattle.fl_arena.specs.Inside.Held.{Held, Free, Taken}
 use Rattle.fl_arena.specs.declared.nodes.Member.{Member}
 use Rattle.fl_arena.specs.declared.nodes.Ends.{Ends}
 use Rattle.fl_arena.specs.declared.cursors.Place.TheVariants as Place
@@ -20,7 +19,7 @@ some_inside (Some x) f y h = (x, refl, cc)
 
 module _ {T : Type 0} where
   -- an entry is at the index, and its node is linked as that index says
-  pub record IsLinkedAt (nodes : List (Node T)) (a : Chains T) (c i slot : ℕ) : Type 0 where
+  pub record IsLinkedAt (nodes : List (Held T)) (a : Chains T) (c i slot : ℕ) : Type 0 where
     pub entry : Entry T
     pub found : slice_get (entries a c) i ≡ Some entry
     pub slot_is : entry.slot ≡ slot
@@ -39,7 +38,7 @@ module _ {T : Type 0} where
             absurd (none-some e (rw none at h))
       ]
 
-  pub linked_at : (nodes : List (Node T)) (ends : List Ends) (spare : Option ℕ) (free : ℕ) (a : Chains T) → Spells nodes ends spare free a → (c i slot : ℕ) →
+  pub linked_at : (nodes : List (Held T)) (ends : List Ends) (spare : Option ℕ) (free : ℕ) (a : Chains T) → Spells nodes ends spare free a → (c i slot : ℕ) →
       slot_at a c i ≡ Some slot → IsLinkedAt nodes a c i slot
   linked_at nodes ends spare free a h c i slot found =
       let e = entry_from_slot_at a c i slot found in
@@ -58,10 +57,10 @@ module _ {T : Type 0} where
       let within = slice_get_within es (suc i) e h in
       (get_or es i e, slice_get-get_or es i e (omega arith))
 
-  pub same_member : (nodes : List (Node T)) (slot : ℕ) (m n : Member T) → slice_get nodes slot ≡ Some (Taken m) → slice_get nodes slot ≡ Some (Taken n) → m ≡ n
+  pub same_member : (nodes : List (Held T)) (slot : ℕ) (m n : Member T) → slice_get nodes slot ≡ Some (Taken m) → slice_get nodes slot ≡ Some (Taken n) → m ≡ n
   same_member nodes slot m n p q = let same = sym p ∙ q in cc
 
-  pub same_place : (nodes : List (Node T)) (ends : List Ends) (spare : Option ℕ) (free : ℕ) (a : Chains T) → Spells nodes ends spare free a →
+  pub same_place : (nodes : List (Held T)) (ends : List Ends) (spare : Option ℕ) (free : ℕ) (a : Chains T) → Spells nodes ends spare free a →
       (c d slot i j : ℕ) → slot_at a c i ≡ Some slot → slot_at a d j ≡ Some slot → (c ≡ d) × (i ≡ j)
   same_place nodes ends spare free a h c d slot zero zero p q =
       let x = linked_at nodes ends spare free a h c zero slot p in
@@ -100,14 +99,14 @@ module _ {T : Type 0} where
       (earlier.0, ap suc earlier.1)
 
   -- a free slot is on no chain
-  pub place_free : (nodes : List (Node T)) (ends : List Ends) (spare : Option ℕ) (free : ℕ) (a : Chains T) → Spells nodes ends spare free a →
+  pub place_free : (nodes : List (Held T)) (ends : List Ends) (spare : Option ℕ) (free : ℕ) (a : Chains T) → Spells nodes ends spare free a →
       (slot : ℕ) (next : Option ℕ) → slice_get nodes slot ≡ Some (Free next) → (c i : ℕ) →
       (Place.Free ≡ On c i → slot_at a c i ≡ Some slot) × (slot_at a c i ≡ Some slot → Place.Free ≡ On c i)
   place_free nodes ends spare free a h slot next read c i =
       (λ same. cc, λ there. let clash = sym read ∙ (linked_at nodes ends spare free a h c i slot there).linked in cc)
 
   -- a slot on a chain is at that place and at no other
-  pub place_on : (nodes : List (Node T)) (ends : List Ends) (spare : Option ℕ) (free : ℕ) (a : Chains T) → Spells nodes ends spare free a → (slot d j : ℕ) →
+  pub place_on : (nodes : List (Held T)) (ends : List Ends) (spare : Option ℕ) (free : ℕ) (a : Chains T) → Spells nodes ends spare free a → (slot d j : ℕ) →
       slot_at a d j ≡ Some slot → (c i : ℕ) → (On d j ≡ On c i → slot_at a c i ≡ Some slot) × (slot_at a c i ≡ Some slot → On d j ≡ On c i)
   place_on nodes ends spare free a h slot d j here c i = (
     λ same.

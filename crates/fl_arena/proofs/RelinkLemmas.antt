@@ -5,8 +5,7 @@ use Rattle.std.specs.Option.{option_map}
 use Rattle.std.proofs.lemmas.Option.{slice_get_within, slice_get_cases}
 use Rattle.fl_arena.specs.Chains.{Entry, Chains, entries, slot_at}
 use Rattle.fl_arena.specs.Inside.Links.{at_link, link_at, link_before, member_of, relinked, IsOnChain, Spells}
-use Rattle.fl_arena.specs.declared.nodes.Node.{Node}
-use Rattle.fl_arena.specs.declared.nodes.Node.TheVariants.{Free, Taken}
+use Rattle.fl_arena.specs.Inside.Held.{Held, Free, Taken}
 use Rattle.fl_arena.specs.declared.nodes.Member.{Member}
 use Rattle.fl_arena.specs.declared.nodes.Ends.{Ends}
 use Rattle.fl_arena.proofs.ReadLemmas.{slice_get-set_other}
@@ -16,12 +15,12 @@ use Rattle.fl_arena.proofs.LinkLemmas.{at_link-other, length-relinked, taken_in_
 module _ {T : Type 0} where
   -- the nodes once the slot before `i` leads to `next`, and the slot at `k` back to `previous`, and a
   -- slot has a node of its own
-  abbrev pub around : List (Node T) → List (Entry T) → ℕ → ℕ → Option ℕ → Option ℕ → ℕ → Node T → List (Node T)
+  abbrev pub around : List (Held T) → List (Entry T) → ℕ → ℕ → Option ℕ → Option ℕ → ℕ → Held T → List (Held T)
   around nodes es i k previous next slot node =
       set (relinked nodes (link_before es i) (link_at es k) previous next) slot node
 
-module _ {T : Type 0} (nodes : List (Node T)) (ends : List Ends) (spare : Option ℕ) (free : ℕ) (a : Chains T) (h : Spells nodes ends spare free a) (c i k : ℕ)
-    (previous next : Option ℕ) (slot : ℕ) (node : Node T) where
+module _ {T : Type 0} (nodes : List (Held T)) (ends : List Ends) (spare : Option ℕ) (free : ℕ) (a : Chains T) (h : Spells nodes ends spare free a) (c i k : ℕ)
+    (previous next : Option ℕ) (slot : ℕ) (node : Held T) where
   -- an entry elsewhere than in the slot itself
   pub entry_reads : (d j : ℕ) (e : Entry T) (p n : Option ℕ) → slice_get (entries a d) j ≡ Some e → e.slot ≢ slot →
       at_link (link_at (entries a c) k) e.slot previous (link_before (entries a d) j) ≡ p →
@@ -83,7 +82,7 @@ module _ {T : Type 0} (nodes : List (Node T)) (ends : List Ends) (spare : Option
             absurd (omega (arith, past.0, length-relinked nodes (link_before (entries a c) i) (link_at (entries a c) k) previous next))
       ]
     where
-      by_node : (x : Node T) → slice_get nodes t ≡ Some x →
+      by_node : (x : Held T) → slice_get nodes t ≡ Some x →
           slice_get (relinked nodes (link_before (entries a c) i) (link_at (entries a c) k) previous next) t ≡ Some (Taken m) → IsOnChain a t m.chain
       by_node (Free link) was now =
           let still = free_in_relinked nodes (link_before (entries a c) i) (link_at (entries a c) k) previous next t link was in

@@ -9,8 +9,7 @@ use Rattle.std.proofs.lemmas.List.Edits.{length-remove}
 use Rattle.fl_arena.specs.Chains.{Entry, Chains, entries, slot_at, with_entries}
 use Rattle.fl_arena.specs.Inside.Links.{is_free, ends_without, link_at, link_before, member_of, relinked, SpellsChain}
 use Rattle.fl_arena.specs.Inside.Links.{SpellsFree, IsOnChain, Spells}
-use Rattle.fl_arena.specs.declared.nodes.Node.{Node}
-use Rattle.fl_arena.specs.declared.nodes.Node.TheVariants.{Free, Taken}
+use Rattle.fl_arena.specs.Inside.Held.{Held, Free, Taken}
 use Rattle.fl_arena.specs.declared.nodes.Member.{Member}
 use Rattle.fl_arena.specs.declared.nodes.Ends.{Ends}
 use Rattle.fl_arena.proofs.ReadLemmas.{slice_get-set_same, slice_get-set_other, slice_get-remove_below}
@@ -61,10 +60,10 @@ module _ {T : Type 0} where
           ]
 
   -- the nodes after a remove
-  abbrev pub nodes_without : List (Node T) → Chains T → ℕ → ℕ → ℕ → Option ℕ → List (Node T)
+  abbrev pub nodes_without : List (Held T) → Chains T → ℕ → ℕ → ℕ → Option ℕ → List (Held T)
   nodes_without nodes a c i slot spare = around nodes (entries a c) i (suc i) (link_before (entries a c) i) (link_at (entries a c) (suc i)) slot (Free spare)
 
-module _ {T : Type 0} (nodes : List (Node T)) (ends : List Ends) (spare : Option ℕ) (free : ℕ) (a : Chains T) (h : Spells nodes ends spare free a)
+module _ {T : Type 0} (nodes : List (Held T)) (ends : List Ends) (spare : Option ℕ) (free : ℕ) (a : Chains T) (h : Spells nodes ends spare free a)
     (c i slot : ℕ) (there : slot_at a c i ≡ Some slot) where
   apart_from : (d j : ℕ) (e : Entry T) → slice_get (entries a d) j ≡ Some e → ((d ≡ c) → (j ≡ i) → ⊥) → e.slot ≢ slot
   apart_from d j e found other same =

@@ -8,8 +8,7 @@ use Rattle.std.proofs.lemmas.List.{set-get_or}
 use Rattle.std.proofs.lemmas.Option.{slice_get_within, get_or_from_slice_get}
 use Rattle.fl_arena.specs.Chains.{Entry, Chains, entries, slot_at, with_entries}
 use Rattle.fl_arena.specs.Inside.Links.{is_free, link_at, link_before, member_of, SpellsChain, IsOnChain, Spells}
-use Rattle.fl_arena.specs.declared.nodes.Node.{Node}
-use Rattle.fl_arena.specs.declared.nodes.Node.TheVariants.{Free, Taken}
+use Rattle.fl_arena.specs.Inside.Held.{Held, Free, Taken}
 use Rattle.fl_arena.specs.declared.nodes.Member.{Member}
 use Rattle.fl_arena.specs.declared.nodes.Ends.{Ends}
 use Rattle.fl_arena.proofs.ReadLemmas.{slice_get-set_same, slice_get-set_other}
@@ -36,7 +35,7 @@ module _ {T : Type 0} where
       ap (λ (l : Option ℕ). record { chain = c; previous = l; next = link_at (set es i z) (suc j); item = e.item }) (link_before-set es i j z h)
       ∙ ap (λ (l : Option ℕ). record { chain = c; previous = link_before es j; next = l; item = e.item }) (link_at-set es i (suc j) z h)
 
-module _ {T : Type 0} (nodes : List (Node T)) (ends : List Ends) (spare : Option ℕ) (free : ℕ) (a : Chains T) (h : Spells nodes ends spare free a)
+module _ {T : Type 0} (nodes : List (Held T)) (ends : List Ends) (spare : Option ℕ) (free : ℕ) (a : Chains T) (h : Spells nodes ends spare free a)
     (c i slot : ℕ) (y : T) (m : Member T) (there : slot_at a c i ≡ Some slot) (read : slice_get nodes slot ≡ Some (Taken m)) where
   was_member : m ≡ record (member_of c (entries a c) i (record { slot = slot; item = m.item })) { item = m.item }
   was_member =

@@ -11,8 +11,7 @@ use Rattle.fl_arena.specs.Inside.Links.{alter, alter_link, with_links, with_prev
 use Rattle.fl_arena.specs.Inside.Links.{relinked}
 use Rattle.fl_arena.specs.Inside.Links.{ends_with, ends_without, Spells}
 use Rattle.fl_arena.specs.declared.cursors.Cursor.{Cursor}
-use Rattle.fl_arena.specs.declared.nodes.Node.{Node}
-use Rattle.fl_arena.specs.declared.nodes.Node.TheVariants.{Free, Taken}
+use Rattle.fl_arena.specs.Inside.Held.{Held, Free, Taken}
 use Rattle.fl_arena.specs.declared.nodes.Member.{Member}
 use Rattle.fl_arena.specs.declared.nodes.Ends.{Ends}
 use Rattle.fl_arena.proofs.ReadLemmas.{slice_get-set_same}
@@ -40,17 +39,17 @@ module _ {X : Type 0} where
 
 module _ {T : Type 0} where
   -- what a slot held before its links were written doesn't matter once it is written itself
-  relinked-written : (nodes : List (Node T)) (slot : ℕ) (x y : Node T) (before after previous next : Option ℕ) →
+  relinked-written : (nodes : List (Held T)) (slot : ℕ) (x y : Held T) (before after previous next : Option ℕ) →
       set (relinked (set nodes slot x) before after previous next) slot y ≡ set (relinked nodes before after previous next) slot y
   relinked-written nodes slot x y before after previous next =
       let first = alter_link-written (with_next next) nodes before slot x in
       let second = alter_link-written (with_previous previous) (alter_link (with_next next) nodes before) after slot first.0 in
-      ap (λ (ns : List (Node T)). set (alter_link (with_previous previous) ns after) slot y) first.1
-      ∙ (ap (λ (ns : List (Node T)). set ns slot y) second.1
+      ap (λ (ns : List (Held T)). set (alter_link (with_previous previous) ns after) slot y) first.1
+      ∙ (ap (λ (ns : List (Held T)). set ns slot y) second.1
       ∙ set-set (relinked nodes before after previous next) slot second.0 y)
 
   -- a node that is linked over reads as one that was taken out and put in
-  over_is_out_and_in : (nodes : List (Node T)) (c slot : ℕ) (m : Member T) (x : Node T) (before after : Option ℕ) → slice_get nodes slot ≡ Some (Taken m) →
+  over_is_out_and_in : (nodes : List (Held T)) (c slot : ℕ) (m : Member T) (x : Held T) (before after : Option ℕ) → slice_get nodes slot ≡ Some (Taken m) →
       alter (with_links c before after) (relinked nodes before after (Some slot) (Some slot)) slot
       ≡ set (relinked (set nodes slot x) before after (Some slot) (Some slot)) slot
       (Taken (record { chain = c; previous = before; next = after; item = m.item }))
@@ -63,7 +62,7 @@ module _ {T : Type 0} where
   abbrev pub over : Chains T → ℕ → ℕ → ℕ → ℕ → Entry T → Chains T
   over a c i d j e = with_entries (without a c i) d (insert (entries a d) j e)
 
-module _ {T : Type 0} (nodes : List (Node T)) (ends : List Ends) (spare : Option ℕ) (free : ℕ) (a : Chains T) (h : Spells nodes ends spare free a)
+module _ {T : Type 0} (nodes : List (Held T)) (ends : List Ends) (spare : Option ℕ) (free : ℕ) (a : Chains T) (h : Spells nodes ends spare free a)
     (c i d j slot : ℕ) (m : Member T) (there : slot_at a c i ≡ Some slot) (read : slice_get nodes slot ≡ Some (Taken m)) (apart : c ≢ d)
     (in_chains : d < length a.chains) (within : j ≤ length (entries a d)) where
   -- the other chain is as before once the item has left its own
@@ -88,7 +87,7 @@ module _ {T : Type 0} (nodes : List (Node T)) (ends : List Ends) (spare : Option
       room _ (set ends c end) (Some slot) (free + 1) (without a c i) (left before after e end found back on ended) d f slot other refl
 
   -- the links after a shift
-  pub shifted : (before after previous next : Option ℕ) (e end f last : Ends) (now : List (Node T)) → slice_get ends c ≡ Some e →
+  pub shifted : (before after previous next : Option ℕ) (e end f last : Ends) (now : List (Held T)) → slice_get ends c ≡ Some e →
       before ≡ link_before (entries a c) i → after ≡ link_at (entries a c) (suc i) → end ≡ ends_without e before after →
       slice_get (set ends c end) d ≡ Some f → previous ≡ link_before (entries a d) j → next ≡ link_at (entries a d) j → last ≡ ends_with f previous next slot →
       now ≡ alter (with_links d previous next) (relinked (relinked nodes before after before after) previous next (Some slot) (Some slot)) slot →
@@ -175,7 +174,7 @@ module _ {T : Type 0} (nodes : List (Node T)) (ends : List Ends) (spare : Option
 
 module _ {T : Type 0} where
   -- as many slots hold no item
-  pub same_free : (nodes now : List (Node T)) (ends last : List Ends) (spare link : Option ℕ) (free : ℕ) (a b : Chains T) → Spells nodes ends spare free a →
+  pub same_free : (nodes now : List (Held T)) (ends last : List Ends) (spare link : Option ℕ) (free : ℕ) (a b : Chains T) → Spells nodes ends spare free a →
       Spells now last link free b → b.slots ≡ a.slots → free_count b ≡ free_count a
   same_free nodes now ends last spare link free a b h k same =
       let x = h.count in

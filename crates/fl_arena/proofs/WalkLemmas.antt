@@ -7,14 +7,13 @@ use Rattle.std.proofs.lemmas.List.{drop_all}
 use Rattle.std.proofs.lemmas.Option.{slice_get-get_or, slice_get_past, slice_get-map}
 use Rattle.fl_arena.specs.Chains.{Entry, Chains, entries}
 use Rattle.fl_arena.specs.Inside.Links.{link_at, SpellsChain, Spells, walk, spelled}
-use Rattle.fl_arena.specs.declared.nodes.Node.{Node}
-use Rattle.fl_arena.specs.declared.nodes.Node.TheVariants.{Taken}
+use Rattle.fl_arena.specs.Inside.Held.{Held, Taken}
 use Rattle.fl_arena.specs.declared.nodes.Member.{Member}
 use Rattle.fl_arena.specs.declared.nodes.Ends.{Ends}
 use Rattle.fl_arena.proofs.ReadLemmas.{same_from_slice_get}
 
 module _ {T : Type 0} where
-  walk-taken : (nodes : List (Node T)) (slot n : ℕ) (m : Member T) → slice_get nodes slot ≡ Some (Taken m) →
+  walk-taken : (nodes : List (Held T)) (slot n : ℕ) (m : Member T) → slice_get nodes slot ≡ Some (Taken m) →
       walk nodes (Some slot) (suc n) ≡ record { slot = slot; item = m.item } ∷ walk nodes m.next n
   unfolding walk
   walk-taken nodes slot n m h = rw (h, walk)
@@ -24,7 +23,7 @@ module _ {T : Type 0} where
   some_entry (x ∷ es) zero h = (x, refl, refl)
   some_entry (x ∷ es) (suc k) h = some_entry es k (omega arith)
 
-  walk-from : (nodes : List (Node T)) (c : ℕ) (ends : Ends) (es : List (Entry T)) → SpellsChain nodes c ends es → (n k : ℕ) → k + n ≡ length es →
+  walk-from : (nodes : List (Held T)) (c : ℕ) (ends : Ends) (es : List (Entry T)) → SpellsChain nodes c ends es → (n k : ℕ) → k + n ≡ length es →
       walk nodes (link_at es k) n ≡ drop k es
   unfolding walk
   walk-from nodes c ends es h zero k e = sym (drop_all k es (omega arith))
@@ -35,7 +34,7 @@ module _ {T : Type 0} where
       rw link (walk-taken nodes some.0.slot n _ (h.linked k some.0 some.1)
       ∙ (ap (λ es. some.0 ∷ es) (walk-from nodes c ends es h n (suc k) (omega arith)) ∙ sym some.2))
 
-  pub walk-spelled : (nodes : List (Node T)) (c : ℕ) (ends : Ends) (es : List (Entry T)) → SpellsChain nodes c ends es → walk nodes ends.first ends.len ≡ es
+  pub walk-spelled : (nodes : List (Held T)) (c : ℕ) (ends : Ends) (es : List (Entry T)) → SpellsChain nodes c ends es → walk nodes ends.first ends.len ≡ es
   walk-spelled nodes c ends es h = rw (h.first, h.len) (walk-from nodes c ends es h (length es) 0 (omega arith))
 
   pub same_chains : (a b : Chains T) → a.chains ≡ b.chains → a.slots ≡ b.slots → a ≡ b
@@ -43,7 +42,7 @@ module _ {T : Type 0} where
       let first : a ≡ record { chains = b.chains; slots = a.slots } = ap (λ (cs : List (List (Entry T))). record { chains = cs; slots = a.slots }) p in
       first ∙ ap (λ (n : ℕ). record { chains = b.chains; slots = n }) q
 
-  spelled_at : (nodes : List (Node T)) (ends : List Ends) (spare : Option ℕ) (free : ℕ) (a : Chains T) → Spells nodes ends spare free a → (c : ℕ) →
+  spelled_at : (nodes : List (Held T)) (ends : List Ends) (spare : Option ℕ) (free : ℕ) (a : Chains T) → Spells nodes ends spare free a → (c : ℕ) →
       slice_get (map (λ (e : Ends). walk nodes e.first e.len) ends) c ≡ slice_get a.chains c
   spelled_at nodes ends spare free a h c = elim (cases_lt c (length ends)) [
     | inl within ↦
@@ -59,7 +58,7 @@ module _ {T : Type 0} where
   ]
 
   -- the chains that are spelled are these
-  pub spelled_is : (nodes : List (Node T)) (ends : List Ends) (spare : Option ℕ) (free : ℕ) (a : Chains T) → Spells nodes ends spare free a →
+  pub spelled_is : (nodes : List (Held T)) (ends : List Ends) (spare : Option ℕ) (free : ℕ) (a : Chains T) → Spells nodes ends spare free a →
       spelled nodes ends ≡ a
   unfolding spelled
   spelled_is nodes ends spare free a h =

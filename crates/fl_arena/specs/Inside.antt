@@ -1,2 +1,3 @@
 -- How an arena is kept. No public clause cites this module.
+pub mod Held
 pub mod Links

@@ -12,7 +12,8 @@ ghost use Rattle.fl_arena.specs.Inside.Links.{link_before};
 
 use crate::cursors::{Cursor, Full, Place};
 use crate::nodes::{
-    Ends, Member, Node, free_nodes, link_in, link_out, link_over, member_at, next_free, slot_number,
+    Ends, Member, Node, free_nodes, item_at, link_in, link_out, link_over, links_at, next_free,
+    slot_number,
 };
 use std::alloc::{AllocError, Global};
 use std::marker::Model;
@@ -111,7 +112,7 @@ impl<T: Copy> Arena<T> {
             ≡ slice_get (items self.now c) i }
     {
         let slot = cursor.slot?;
-        Some(&member_at(&self.nodes, slot).item)
+        Some(item_at(&self.nodes, slot))
     }
 
     /// The cursor at the first item of the chain that passes the test, or at its end.
@@ -171,7 +172,7 @@ impl<T: Copy> Arena<T> {
     {
         if let Some(slot) = cursor.slot {
             cursor.index += 1;
-            cursor.slot = member_at(&self.nodes, slot).next;
+            cursor.slot = links_at(&self.nodes, slot).1;
         }
     }
 
@@ -186,11 +187,7 @@ impl<T: Copy> Arena<T> {
         ensures size { HasSizeOf self.old self.new }
         ensures linked { IsLinked self.new }
     {
-        let Some(slot) = cursor.slot else {
-            unreachable!()
-        };
-        let member = *member_at(&self.nodes, slot);
-        self.nodes[usize::from(slot)] = Node::Taken(Member { item, ..member });
+        *self.item_mut(cursor) = item;
     }
 
     /// The item at the cursor, to be changed in place.
@@ -228,8 +225,8 @@ impl<T: Copy> Arena<T> {
         let Some(slot) = cursor.slot else {
             unreachable!()
         };
-        let member = member_at(&self.nodes, slot);
-        let (before, after, item) = (member.previous, member.next, member.item);
+        let (before, after) = links_at(&self.nodes, slot);
+        let item = *item_at(&self.nodes, slot);
         let ends = self.ends[cursor.chain];
         link_out(&mut self.nodes, slot, (before, after), self.spare);
         self.ends[cursor.chain] = ends.without(before, after);
@@ -304,8 +301,7 @@ impl<T: Copy> Arena<T> {
         let Some(slot) = from.slot else {
             unreachable!()
         };
-        let member = member_at(&self.nodes, slot);
-        let (before, after) = (member.previous, member.next);
+        let (before, after) = links_at(&self.nodes, slot);
         let (previous, index) = self.spot_before(to);
         let next = to.slot;
         link_over(
@@ -330,7 +326,7 @@ impl<T: Copy> Arena<T> {
         ensures index { result.1 ≡ index_of self.now cursor.now }
     {
         match cursor.slot {
-            Some(slot) => (member_at(&self.nodes, slot).previous, cursor.index),
+            Some(slot) => (links_at(&self.nodes, slot).0, cursor.index),
             None => {
                 let ends = self.ends[cursor.chain];
                 (ends.last, ends.len)
@@ -353,10 +349,10 @@ impl<T: Copy> Arena<T> {
         ensures on { (c i : ℕ) → (result ≡ Place.On c i) ↔ (slot_at self.now c i ≡ Some slot) }
         ensures free { result ≡ Place.Free → 0 < free_count self.now }
     {
-        match self.nodes[slot] {
-            Node::Free(_) => Place::Free,
-            Node::Taken(member) => {
-                let chain = usize::from(member.chain);
+        match self.nodes[slot].chain() {
+            None => Place::Free,
+            Some(chain) => {
+                let chain = usize::from(chain);
                 Place::On(chain, self.index_on(chain, slot))
             }
         }

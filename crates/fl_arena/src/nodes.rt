@@ -1,11 +1,14 @@
 //! The nodes in the slots, and the links between them.
 ghost use Rattle.std.specs.Prelude.{◌≡◌, ◌≤◌, ◌<◌, ◌^◌, length, slice_get, slice_set, Some, IsSome, IfOk};
 ghost use Rattle.std.specs.Borrow.{Lends, sem};
+ghost use Rattle.fl_arena.specs.Inside.Held.{Free, Taken, IsFilled};
 ghost use Rattle.fl_arena.specs.Inside.Links.{alter, alter_link, with_links, with_previous, with_next};
 ghost use Rattle.fl_arena.specs.Inside.Links.{relinked, ends_with, ends_without};
-ghost use Rattle.fl_arena.specs.Inside.Links.{IsTaken, IsSpare, IsWithin, AreFree, item_in, node_with};
+ghost use Rattle.fl_arena.specs.Inside.Links.{IsTaken, IsSpare, IsWithin, AreFree, item_in, chain_in, held_with};
+ghost use Rattle.fl_arena.specs.Inside.Links.{HasItem, HasLinks};
 
 use std::alloc::{AllocError, Global};
+use std::marker::Model;
 
 // An item on a chain, with the slots before and after it.
 #[derive(Clone, Copy)]
@@ -16,26 +19,121 @@ pub(crate) struct Member<T> {
     pub item: T,
 }
 
-// What a slot holds: the next slot of the free list, or an item.
+// Room for an item, which is empty before the first.
 #[derive(Clone, Copy)]
-pub(crate) enum Node<T> {
-    Free(Option<u16>),
-    Taken(Member<T>),
+enum Room<T> {
+    Empty,
+    Filled(T),
 }
 
-impl<T> Node<T> {
+impl<T> Room<T> {
+    ghost use Rattle.fl_arena.specs.contracts.nodes.Room.{the_row};
+
+    fn item_mut(&mut self) -> &mut T
+        requires { IsFilled self.old }
+        ensures* writes_back { sem 𝓛 (Lends (the_row T.row) T.row self.entry result (λ item. Room.Filled item)) }
+        ensures item { self.old ≡ Room.Filled result.now }
+    {
+        match self {
+            Room::Filled(item) => item,
+            Room::Empty => unreachable!(),
+        }
+    }
+}
+
+// What a slot holds: an item on a chain, or the next slot of the free list. A slot that was freed still has its item,
+// which no contract sees: to write over that takes as long as to put one in.
+#[derive(Drop)]
+pub(crate) struct Node<T: Copy> {
+    // None if the slot is free.
+    chain: Option<u16>,
+    previous: Option<u16>,
+    next: Option<u16>,
+    item: Room<T>,
+}
+
+impl<T: Copy> Model for Node<T> {
+    ghost use Rattle.fl_arena.specs.Inside.Held.{Held, held, IsWhole};
+
+    ghost Value = { Held T };
+
+    ghost view = { λ n. held n.chain n.previous n.next n.item };
+
+    ghost invariant = { λ n. IsWhole n.chain n.item };
+}
+
+impl<T: Copy> Node<T> {
     ghost use Rattle.fl_arena.specs.contracts.nodes.Node.{the_row};
+
+    fn free(next: Option<u16>) -> Node<T>
+        ensures { result ≡ Free next }
+    {
+        Node {
+            chain: None,
+            previous: None,
+            next,
+            item: Room::Empty,
+        }
+    }
+
+    fn taken(member: Member<T>) -> Node<T>
+        ensures { result ≡ Taken member }
+    {
+        Node {
+            chain: Some(member.chain),
+            previous: member.previous,
+            next: member.next,
+            item: Room::Filled(member.item),
+        }
+    }
+
+    // The chain of its item, or none if it is free.
+    pub(crate) fn chain(&self) -> Option<u16>
+        ensures { result ≡ chain_in self.now }
+    {
+        self.chain
+    }
 
     // The item of a node that has one.
     pub(crate) fn item_mut(&mut self) -> &mut T
         requires { IsSome (item_in self.old) }
-        ensures* writes_back { sem 𝓛 (Lends (the_row T.row) T.row self.entry result (node_with self.old)) }
+        ensures* writes_back { sem 𝓛 (Lends (the_row T.row) T.row self.entry result (held_with self.old)) }
         ensures item { item_in self.old ≡ Some result.now }
     {
-        match self {
-            Node::Taken(member) => &mut member.item,
-            Node::Free(_) => unreachable!(),
+        self.item.item_mut()
+    }
+
+    fn set_next(&mut self, next: Option<u16>)
+        ensures { self.new ≡ with_next next self.old }
+    {
+        if self.chain.is_some() {
+            self.next = next;
         }
+    }
+
+    fn set_previous(&mut self, previous: Option<u16>)
+        ensures { self.new ≡ with_previous previous self.old }
+    {
+        if self.chain.is_some() {
+            self.previous = previous;
+        }
+    }
+
+    fn set_links(&mut self, chain: u16, previous: Option<u16>, next: Option<u16>)
+        ensures { self.new ≡ with_links chain previous next self.old }
+    {
+        if self.chain.is_some() {
+            self.chain = Some(chain);
+            self.previous = previous;
+            self.next = next;
+        }
+    }
+
+    fn give_up(&mut self, next: Option<u16>)
+        ensures { self.new ≡ Free next }
+    {
+        self.chain = None;
+        self.next = next;
     }
 }
 
@@ -105,7 +203,7 @@ pub(crate) fn free_nodes<T: Copy>(
     let mut nodes = Vec::with_capacity(alloc, count)?;
     let mut spare = None;
     for slot in 0..count {
-        nodes.push(Node::Free(spare))?;
+        nodes.push(Node::free(spare))?;
         spare = Some(slot as u16);
     }
     Ok((nodes, spare))
@@ -117,24 +215,31 @@ pub(crate) fn slot_number(link: Option<u16>) -> Option<usize>
     link.map(usize::from)
 }
 
-pub(crate) fn member_at<T: Copy>(nodes: &Vec<Node<T>>, slot: u16) -> &Member<T>
+// The item in a slot.
+pub(crate) fn item_at<T: Copy>(nodes: &Vec<Node<T>>, slot: u16) -> &T
     requires { IsTaken nodes.now.items slot }
-    ensures { slice_get nodes.now.items slot ≡ Some (Node.Taken result.now) }
+    ensures { HasItem nodes.now.items slot result.now }
 {
-    match &nodes[usize::from(slot)] {
-        Node::Taken(member) => member,
-        Node::Free(_) => unreachable!(),
+    match &nodes[usize::from(slot)].item {
+        Room::Filled(item) => item,
+        Room::Empty => unreachable!(),
     }
+}
+
+// The slots before and after that of an item.
+pub(crate) fn links_at<T: Copy>(nodes: &Vec<Node<T>>, slot: u16) -> (Option<u16>, Option<u16>)
+    requires { IsTaken nodes.now.items slot }
+    ensures { HasLinks nodes.now.items slot result.0 result.1 }
+{
+    let node = &nodes[usize::from(slot)];
+    (node.previous, node.next)
 }
 
 pub(crate) fn next_free<T: Copy>(nodes: &Vec<Node<T>>, slot: u16) -> Option<u16>
     requires { IsSpare nodes.now.items slot }
-    ensures { slice_get nodes.now.items slot ≡ Some (Node.Free result) }
+    ensures { slice_get nodes.now.items slot ≡ Some (Free result) }
 {
-    match nodes[usize::from(slot)] {
-        Node::Free(next) => next,
-        Node::Taken(_) => unreachable!(),
-    }
+    nodes[usize::from(slot)].next
 }
 
 fn set_next<T: Copy>(nodes: &mut Vec<Node<T>>, slot: Option<u16>, next: Option<u16>)
@@ -142,9 +247,7 @@ fn set_next<T: Copy>(nodes: &mut Vec<Node<T>>, slot: Option<u16>, next: Option<u
     ensures { nodes.new.items ≡ alter_link (with_next next) nodes.old.items slot }
 {
     if let Some(slot) = slot {
-        if let Node::Taken(member) = &mut nodes[usize::from(slot)] {
-            member.next = next;
-        }
+        nodes[usize::from(slot)].set_next(next);
     }
 }
 
@@ -153,9 +256,7 @@ fn set_previous<T: Copy>(nodes: &mut Vec<Node<T>>, slot: Option<u16>, previous: 
     ensures { nodes.new.items ≡ alter_link (with_previous previous) nodes.old.items slot }
 {
     if let Some(slot) = slot {
-        if let Node::Taken(member) = &mut nodes[usize::from(slot)] {
-            member.previous = previous;
-        }
+        nodes[usize::from(slot)].set_previous(previous);
     }
 }
 
@@ -182,10 +283,10 @@ pub(crate) fn link_in<T: Copy>(nodes: &mut Vec<Node<T>>, slot: u16, member: Memb
     requires after { IsWithin nodes.old.items member.next }
     ensures { nodes.new.items
         ≡ slice_set (relinked nodes.old.items member.previous member.next (Some slot) (Some slot)) slot
-        (Node.Taken member) }
+        (Taken member) }
 {
     relink(nodes, member.previous, member.next, Some(slot), Some(slot));
-    nodes[usize::from(slot)] = Node::Taken(member);
+    nodes[usize::from(slot)] = Node::taken(member);
 }
 
 // Takes the member out of the slot, links those before and after it to each other, and puts the slot
@@ -200,10 +301,10 @@ pub(crate) fn link_out<T: Copy>(
     requires before { IsWithin nodes.old.items links.0 }
     requires after { IsWithin nodes.old.items links.1 }
     ensures { nodes.new.items
-        ≡ slice_set (relinked nodes.old.items links.0 links.1 links.0 links.1) slot (Node.Free spare) }
+        ≡ slice_set (relinked nodes.old.items links.0 links.1 links.0 links.1) slot (Free spare) }
 {
     relink(nodes, links.0, links.1, links.0, links.1);
-    nodes[usize::from(slot)] = Node::Free(spare);
+    nodes[usize::from(slot)].give_up(spare);
 }
 
 // Takes a slot from between the first links, which lead to each other then, to between the second ones
@@ -226,9 +327,5 @@ pub(crate) fn link_over<T: Copy>(
 {
     relink(nodes, old.0, old.1, old.0, old.1);
     relink(nodes, new.0, new.1, Some(slot), Some(slot));
-    if let Node::Taken(member) = &mut nodes[usize::from(slot)] {
-        member.chain = chain;
-        member.previous = new.0;
-        member.next = new.1;
-    }
+    nodes[usize::from(slot)].set_links(chain, new.0, new.1);
 }

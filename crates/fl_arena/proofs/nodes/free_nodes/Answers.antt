@@ -3,7 +3,7 @@ use Rattle.fl_arena.proofs.NodeLemmas.{AreFree-push}
 use Rattle.fl_arena.proofs.nodes.free_nodes.Goals as goal
 
 pub loop-slot-preserved : goal.loop-slot-preserved
-loop-slot-preserved g c = rw c.in_ok-push.ensures.items (AreFree-push _ _ _ c.loop-slot.invariant)
+loop-slot-preserved g c = rw (c.in_ok-push.ensures.items, c.free.ensures) (AreFree-push _ _ _ c.loop-slot.invariant)
 
 pub returns : goal.returns
 returns g c =

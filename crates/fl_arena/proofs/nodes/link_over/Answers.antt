@@ -1,6 +1,5 @@
 use Rattle.std.proofs.Common.{Some, arith, ◌<◌, ap, ◌∙◌, length, refl}
 use Rattle.fl_arena.specs.Inside.Links.{alter, with_links, relinked}
-use Rattle.fl_arena.specs.declared.nodes.Node.TheVariants.{Free, Taken}
 use Rattle.fl_arena.proofs.LinkLemmas.{as_long}
 use Rattle.fl_arena.proofs.NodeLemmas.{IsWithin-same, alter_link-read}
 use Rattle.fl_arena.proofs.nodes.link_over.Goals as goal
@@ -27,18 +26,10 @@ index_mut-requires g c =
     let ok = c.relink-2.new.nodes.ok.0 in
     omega arith
 
-pub returns-in-Taken : goal.returns-in-Taken
-returns-in-Taken g c =
-    let within = there g (goal.at.returns-in-Taken g c).After-relink-2 in
-    alter_link-read (with_links c.args.chain c.args.new.0 c.args.new.1) c.relink-2.new.nodes.items (Some c.args.slot) c.args.slot c.from.result
-    (Taken c.in-Taken.member) refl c.from.ensures within (rw c.in-Taken.is at c.index_mut.ensures.value)
+pub returns : goal.returns
+returns g c =
+    let within = there g (goal.at.returns g c).After-relink-2 in
+    rw c.set_links.ensures (alter_link-read (with_links c.args.chain c.args.new.0 c.args.new.1) c.relink-2.new.nodes.items (Some c.args.slot) c.args.slot
+    c.from.result c.index_mut.result.now refl c.from.ensures within c.index_mut.ensures.value)
     ∙ ap (λ nodes. alter (with_links c.args.chain c.args.new.0 c.args.new.1) nodes c.args.slot) (c.relink-2.ensures
     ∙ ap (λ nodes. relinked nodes c.args.new.0 c.args.new.1 (Some c.args.slot) (Some c.args.slot)) c.relink.ensures)
-
-pub returns-in_default : goal.returns-in_default
-returns-in_default g c =
-    let within = there g (goal.at.returns-in_default g c).After-relink-2 in
-    rw c.in_default.is (alter_link-read (with_links c.args.chain c.args.new.0 c.args.new.1) c.relink-2.new.nodes.items (Some c.args.slot) c.args.slot
-    c.from.result (Free c.in_default.field-0) refl c.from.ensures within (rw c.in_default.is at c.index_mut.ensures.value)
-    ∙ ap (λ nodes. alter (with_links c.args.chain c.args.new.0 c.args.new.1) nodes c.args.slot) (c.relink-2.ensures
-    ∙ ap (λ nodes. relinked nodes c.args.new.0 c.args.new.1 (Some c.args.slot) (Some c.args.slot)) c.relink.ensures))

@@ -11,8 +11,8 @@ use Rattle.fl_arena.proofs.CountLemmas.{linked_once}
 use Rattle.fl_arena.proofs.chains.Arena.remove.Goals as goal
 use Rattle.fl_arena.proofs.chains.Arena.remove.Goals.{After-without}
 
-pub member_at-member-requires : goal.member_at-member-requires
-member_at-member-requires g c =
+pub links_at-before-requires : goal.links_at-before-requires
+links_at-before-requires g c =
     let spells = spells_value _ _ _ _ _ c.self.invariant c.self.view_is in
     is_taken _ _ _ _ _ spells _ _ _ (slot_there c.args.self.now c.args.cursor.now _ c.in-Some.is c.requires.in_place)
 
@@ -20,27 +20,27 @@ pub link_out-requires-clause-slot : goal.link_out-requires-clause-slot
 link_out-requires-clause-slot g c =
     let spells = spells_value _ _ _ _ _ c.self.invariant c.self.view_is in
     let there = slot_there c.args.self.now c.args.cursor.now _ c.in-Some.is c.requires.in_place in
-    (is_at _ _ _ _ _ spells _ _ _ c.member_at-member.result.now there c.member_at-member.ensures).in_nodes
+    (is_at _ _ _ _ _ spells _ _ _ _ there c.links_at-before.ensures.read).in_nodes
 
 pub link_out-requires-clause-before : goal.link_out-requires-clause-before
 link_out-requires-clause-before g c =
     let spells = spells_value _ _ _ _ _ c.self.invariant c.self.view_is in
     let there = slot_there c.args.self.now c.args.cursor.now _ c.in-Some.is c.requires.in_place in
-    let at = is_at _ _ _ _ _ spells _ _ _ c.member_at-member.result.now there c.member_at-member.ensures in
+    let at = is_at _ _ _ _ _ spells _ _ _ _ there c.links_at-before.ensures.read in
     rw at.previous (before_within _ _ _ _ _ spells c.args.cursor.now.chain c.args.cursor.now.index)
 
 pub link_out-requires-clause-after : goal.link_out-requires-clause-after
 link_out-requires-clause-after g c =
     let spells = spells_value _ _ _ _ _ c.self.invariant c.self.view_is in
     let there = slot_there c.args.self.now c.args.cursor.now _ c.in-Some.is c.requires.in_place in
-    let at = is_at _ _ _ _ _ spells _ _ _ c.member_at-member.result.now there c.member_at-member.ensures in
+    let at = is_at _ _ _ _ _ spells _ _ _ _ there c.links_at-before.ensures.read in
     rw at.next (linked_within _ _ _ _ _ spells c.args.cursor.now.chain (suc c.args.cursor.now.index))
 
 pub without-requires : goal.without-requires
 without-requires g c =
     let spells = spells_value _ _ _ _ _ c.self.invariant c.self.view_is in
     let there = slot_there c.args.self.now c.args.cursor.now _ c.in-Some.is c.requires.in_place in
-    let at = is_at _ _ _ _ _ spells _ _ _ c.member_at-member.result.now there c.member_at-member.ensures in
+    let at = is_at _ _ _ _ _ spells _ _ _ _ there c.links_at-before.ensures.read in
     let found = end_read c.self.inside.ends.items c.args.cursor.now.chain c.index-ends.result.now
     (let chains = spells.chains in let within = at.in_chains in omega arith) c.index-ends.ensures in
     let long = (spells.each c.args.cursor.now.chain c.index-ends.result.now found).len in
@@ -54,7 +54,7 @@ after : (g : _) (c : After-without g) →
 after g c =
     let spells = spells_value _ _ _ _ _ c.self.invariant c.self.view_is in
     let there = slot_there c.args.self.now c.args.cursor.now _ c.in-Some.is c.requires.in_place in
-    let at = is_at _ _ _ _ _ spells _ _ _ c.member_at-member.result.now there c.member_at-member.ensures in
+    let at = is_at _ _ _ _ _ spells _ _ _ _ there c.links_at-before.ensures.read in
     let found = end_read c.self.inside.ends.items c.args.cursor.now.chain c.index-ends.result.now
     (let chains = spells.chains in let within = at.in_chains in omega arith) c.index-ends.ensures in
     removed _ _ _ _ _ _ _ _ _ _ _ _ _ spells there at.in_nodes at.in_chains at.in_chain found at.previous at.next c.link_out.ensures c.without.ensures
@@ -66,7 +66,7 @@ pub returns-clause-value : goal.returns-clause-value
 returns-clause-value g c =
     let spells = spells_value _ _ _ _ _ c.self.invariant c.self.view_is in
     let there = slot_there c.args.self.now c.args.cursor.now _ c.in-Some.is c.requires.in_place in
-    (is_at _ _ _ _ _ spells _ _ _ c.member_at-member.result.now there c.member_at-member.ensures).item
+    (is_at _ _ _ _ _ spells _ _ _ _ there c.item_at-item.ensures.read).item
 
 pub returns-clause-chains : goal.returns-clause-chains
 returns-clause-chains g c = spelled_is _ _ _ _ _ (after g (goal.at.returns-clause-chains g c).After-without)
@@ -75,8 +75,8 @@ pub returns-clause-cursor : goal.returns-clause-cursor
 returns-clause-cursor g c =
     let spells = spells_value _ _ _ _ _ c.self.invariant c.self.view_is in
     let there = slot_there c.args.self.now c.args.cursor.now _ c.in-Some.is c.requires.in_place in
-    let at = is_at _ _ _ _ _ spells _ _ _ c.member_at-member.result.now there c.member_at-member.ensures in
-    cursor_after c.args.self.now c.args.cursor.now.chain c.args.cursor.now.index c.member_at-member.result.now.next at.in_chains at.next
+    let at = is_at _ _ _ _ _ spells _ _ _ _ there c.links_at-before.ensures.read in
+    cursor_after c.args.self.now c.args.cursor.now.chain c.args.cursor.now.index c.links_at-before.result.1 at.in_chains at.next
     ∙ ap (λ x. cursor_at x c.args.cursor.now.chain c.args.cursor.now.index)
     (sym (spelled_is _ _ _ _ _ (after g (goal.at.returns-clause-cursor g c).After-without)))
 
@@ -84,7 +84,7 @@ pub returns-clause-items : goal.returns-clause-items
 returns-clause-items g c =
     let spells = spells_value _ _ _ _ _ c.self.invariant c.self.view_is in
     let there = slot_there c.args.self.now c.args.cursor.now _ c.in-Some.is c.requires.in_place in
-    let at = is_at _ _ _ _ _ spells _ _ _ c.member_at-member.result.now there c.member_at-member.ensures in
+    let at = is_at _ _ _ _ _ spells _ _ _ _ there c.links_at-before.ensures.read in
     ap (λ x. items x c.args.cursor.now.chain) (spelled_is _ _ _ _ _ (after g (goal.at.returns-clause-items g c).After-without))
     ∙ items-remove c.args.self.now c.args.cursor.now.chain c.args.cursor.now.index at.in_chains
 

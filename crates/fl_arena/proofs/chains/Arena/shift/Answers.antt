@@ -13,8 +13,8 @@ use Rattle.fl_arena.proofs.CountLemmas.{linked_once}
 use Rattle.fl_arena.proofs.chains.Arena.shift.Goals as goal
 use Rattle.fl_arena.proofs.chains.Arena.shift.Goals.{After-with}
 
-pub member_at-member-requires : goal.member_at-member-requires
-member_at-member-requires g c =
+pub links_at-before-requires : goal.links_at-before-requires
+links_at-before-requires g c =
     let spells = spells_value _ _ _ _ _ c.self.invariant c.self.view_is in
     is_taken _ _ _ _ _ spells _ _ _ (slot_there c.args.self.now c.args.from.now _ c.in-Some.is c.requires.from)
 
@@ -22,20 +22,20 @@ pub link_over-requires-clause-slot : goal.link_over-requires-clause-slot
 link_over-requires-clause-slot g c =
     let spells = spells_value _ _ _ _ _ c.self.invariant c.self.view_is in
     let there = slot_there c.args.self.now c.args.from.now _ c.in-Some.is c.requires.from in
-    (is_at _ _ _ _ _ spells _ _ _ c.member_at-member.result.now there c.member_at-member.ensures).in_nodes
+    (is_at _ _ _ _ _ spells _ _ _ _ there c.links_at-before.ensures.read).in_nodes
 
 pub link_over-requires-clause-old_before : goal.link_over-requires-clause-old_before
 link_over-requires-clause-old_before g c =
     let spells = spells_value _ _ _ _ _ c.self.invariant c.self.view_is in
     let there = slot_there c.args.self.now c.args.from.now _ c.in-Some.is c.requires.from in
-    let at = is_at _ _ _ _ _ spells _ _ _ c.member_at-member.result.now there c.member_at-member.ensures in
+    let at = is_at _ _ _ _ _ spells _ _ _ _ there c.links_at-before.ensures.read in
     rw at.previous (before_within _ _ _ _ _ spells c.args.from.now.chain c.args.from.now.index)
 
 pub link_over-requires-clause-old_after : goal.link_over-requires-clause-old_after
 link_over-requires-clause-old_after g c =
     let spells = spells_value _ _ _ _ _ c.self.invariant c.self.view_is in
     let there = slot_there c.args.self.now c.args.from.now _ c.in-Some.is c.requires.from in
-    let at = is_at _ _ _ _ _ spells _ _ _ c.member_at-member.result.now there c.member_at-member.ensures in
+    let at = is_at _ _ _ _ _ spells _ _ _ _ there c.links_at-before.ensures.read in
     rw at.next (linked_within _ _ _ _ _ spells c.args.from.now.chain (suc c.args.from.now.index))
 
 pub link_over-requires-clause-new_before : goal.link_over-requires-clause-new_before
@@ -53,7 +53,7 @@ pub without-requires : goal.without-requires
 without-requires g c =
     let spells = spells_value _ _ _ _ _ c.self.invariant c.self.view_is in
     let there = slot_there c.args.self.now c.args.from.now _ c.in-Some.is c.requires.from in
-    let at = is_at _ _ _ _ _ spells _ _ _ c.member_at-member.result.now there c.member_at-member.ensures in
+    let at = is_at _ _ _ _ _ spells _ _ _ _ there c.links_at-before.ensures.read in
     let found = end_read c.self.inside.ends.items c.args.from.now.chain c.index.result.now
     (let chains = spells.chains in let within = at.in_chains in omega arith) c.index.ensures in
     let long = (spells.each c.args.from.now.chain c.index.result.now found).len in
@@ -64,14 +64,14 @@ pub with-requires : goal.with-requires
 with-requires g c =
     let spells = spells_value _ _ _ _ _ c.self.invariant c.self.view_is in
     let there = slot_there c.args.self.now c.args.from.now _ c.in-Some.is c.requires.from in
-    let at = is_at _ _ _ _ _ spells _ _ _ c.member_at-member.result.now there c.member_at-member.ensures in
+    let at = is_at _ _ _ _ _ spells _ _ _ _ there c.links_at-before.ensures.read in
     let here = stands _ _ _ _ _ spells c.args.to.now c.requires.to c.requires.chain in
     let found = end_read c.self.inside.ends.items c.args.from.now.chain c.index.result.now
     (let chains = spells.chains in let within = at.in_chains in omega arith) c.index.ensures in
     let other = end_read (set c.self.inside.ends.items c.args.from.now.chain c.without.result) c.args.to.now.chain c.index-2.result.now
     (let chains = spells.chains in let within = c.requires.chain in omega (arith, length-set c.self.inside.ends.items c.args.from.now.chain c.without.result))
     c.index-2.ensures in
-    room_to_join _ _ _ _ _ spells _ _ _ _ _ _ there c.member_at-member.ensures c.requires.apart c.requires.chain here.1 _ _ _ _ _ found at.previous at.next
+    room_to_join _ _ _ _ _ spells _ _ _ _ _ _ there c.links_at-before.ensures.read c.requires.apart c.requires.chain here.1 _ _ _ _ _ found at.previous at.next
     c.without.ensures other
 
 -- the links once the slot is on its new chain
@@ -80,18 +80,18 @@ after : (g : _) (c : After-with g) →
     (set (set c.self.inside.ends.items c.args.from.now.chain c.without.result) c.args.to.now.chain c.with.result)
     c.self.inside.spare c.self.inside.free
     (over c.args.self.now c.args.from.now.chain c.args.from.now.index c.args.to.now.chain (index_of c.args.self.now c.args.to.now)
-    (record { slot = c.in-Some.slot; item = c.member_at-member.result.now.item }))
+    (record { slot = c.in-Some.slot; item = c.links_at-before.ensures.item }))
 after g c =
     let spells = spells_value _ _ _ _ _ c.self.invariant c.self.view_is in
     let there = slot_there c.args.self.now c.args.from.now _ c.in-Some.is c.requires.from in
-    let at = is_at _ _ _ _ _ spells _ _ _ c.member_at-member.result.now there c.member_at-member.ensures in
+    let at = is_at _ _ _ _ _ spells _ _ _ _ there c.links_at-before.ensures.read in
     let here = stands _ _ _ _ _ spells c.args.to.now c.requires.to c.requires.chain in
     let found = end_read c.self.inside.ends.items c.args.from.now.chain c.index.result.now
     (let chains = spells.chains in let within = at.in_chains in omega arith) c.index.ensures in
     let other = end_read (set c.self.inside.ends.items c.args.from.now.chain c.without.result) c.args.to.now.chain c.index-2.result.now
     (let chains = spells.chains in let within = c.requires.chain in omega (arith, length-set c.self.inside.ends.items c.args.from.now.chain c.without.result))
     c.index-2.ensures in
-    shifted _ _ _ _ _ spells _ _ _ _ _ _ there c.member_at-member.ensures c.requires.apart c.requires.chain here.1 _ _ _ _ _ _ _ _ _ found at.previous at.next
+    shifted _ _ _ _ _ spells _ _ _ _ _ _ there c.links_at-before.ensures.read c.requires.apart c.requires.chain here.1 _ _ _ _ _ _ _ _ _ found at.previous at.next
     c.without.ensures other c.spot_before-previous.ensures.previous here.0 c.with.ensures c.link_over.ensures
 
 pub invariant_of-self : goal.invariant_of-self
@@ -103,8 +103,8 @@ returns-clause-chains g c =
     let there = slot_there c.args.self.now c.args.from.now _ c.in-Some.is c.requires.from in
     let here = stands _ _ _ _ _ spells c.args.to.now c.requires.to c.requires.chain in
     record {
-      moved = record { slot = c.in-Some.slot; item = c.member_at-member.result.now.item };
-      was_there = moved_entry _ _ _ _ _ spells _ _ _ _ _ _ there c.member_at-member.ensures c.requires.apart c.requires.chain here.1;
+      moved = record { slot = c.in-Some.slot; item = c.links_at-before.ensures.item };
+      was_there = moved_entry _ _ _ _ _ spells _ _ _ _ _ _ there c.links_at-before.ensures.read c.requires.apart c.requires.chain here.1;
       chains = spelled_is _ _ _ _ _ (after g (goal.at.returns-clause-chains g c).After-with);
     }
 
@@ -114,7 +114,7 @@ returns-clause-left g c =
     let there = slot_there c.args.self.now c.args.from.now _ c.in-Some.is c.requires.from in
     let here = stands _ _ _ _ _ spells c.args.to.now c.requires.to c.requires.chain in
     ap (λ x. items x c.args.from.now.chain) (spelled_is _ _ _ _ _ (after g (goal.at.returns-clause-left g c).After-with))
-    ∙ items_left _ _ _ _ _ spells _ _ _ _ _ _ there c.member_at-member.ensures c.requires.apart c.requires.chain here.1
+    ∙ items_left _ _ _ _ _ spells _ _ _ _ _ _ there c.links_at-before.ensures.read c.requires.apart c.requires.chain here.1
 
 pub returns-clause-joined : goal.returns-clause-joined
 returns-clause-joined g c item found =
@@ -122,7 +122,7 @@ returns-clause-joined g c item found =
     let there = slot_there c.args.self.now c.args.from.now _ c.in-Some.is c.requires.from in
     let here = stands _ _ _ _ _ spells c.args.to.now c.requires.to c.requires.chain in
     ap (λ x. items x c.args.to.now.chain) (spelled_is _ _ _ _ _ (after g (goal.at.returns-clause-joined g c).After-with))
-    ∙ items_joined _ _ _ _ _ spells _ _ _ _ _ _ there c.member_at-member.ensures c.requires.apart c.requires.chain here.1 item found
+    ∙ items_joined _ _ _ _ _ spells _ _ _ _ _ _ there c.links_at-before.ensures.read c.requires.apart c.requires.chain here.1 item found
 
 pub returns-clause-at_index : goal.returns-clause-at_index
 returns-clause-at_index g c d i item at found =
@@ -130,7 +130,7 @@ returns-clause-at_index g c d i item at found =
     let there = slot_there c.args.self.now c.args.from.now _ c.in-Some.is c.requires.from in
     let here = stands _ _ _ _ _ spells c.args.to.now c.requires.to c.requires.chain in
     ap (λ x. items x d) (spelled_is _ _ _ _ _ (after g (goal.at.returns-clause-at_index g c).After-with))
-    ∙ joined_at _ _ _ _ _ spells _ _ _ _ _ _ there c.member_at-member.ensures c.requires.apart c.requires.chain here.1 c.args.to.now d i item at refl refl
+    ∙ joined_at _ _ _ _ _ spells _ _ _ _ _ _ there c.links_at-before.ensures.read c.requires.apart c.requires.chain here.1 c.args.to.now d i item at refl refl
     found
 
 pub returns-clause-others : goal.returns-clause-others
@@ -139,7 +139,7 @@ returns-clause-others g c b not_from not_to =
     let there = slot_there c.args.self.now c.args.from.now _ c.in-Some.is c.requires.from in
     let here = stands _ _ _ _ _ spells c.args.to.now c.requires.to c.requires.chain in
     ap (λ x. entries x b) (spelled_is _ _ _ _ _ (after g (goal.at.returns-clause-others g c).After-with))
-    ∙ others_kept _ _ _ _ _ spells _ _ _ _ _ _ there c.member_at-member.ensures c.requires.apart c.requires.chain here.1 b not_from not_to
+    ∙ others_kept _ _ _ _ _ spells _ _ _ _ _ _ there c.links_at-before.ensures.read c.requires.apart c.requires.chain here.1 b not_from not_to
 
 pub returns-clause-size : goal.returns-clause-size
 returns-clause-size g c =
@@ -147,7 +147,7 @@ returns-clause-size g c =
     let there = slot_there c.args.self.now c.args.from.now _ c.in-Some.is c.requires.from in
     let here = stands _ _ _ _ _ spells c.args.to.now c.requires.to c.requires.chain in
     rw (spelled_is _ _ _ _ _ (after g (goal.at.returns-clause-size g c).After-with))
-    (size_kept _ _ _ _ _ spells _ _ _ _ _ _ there c.member_at-member.ensures c.requires.apart c.requires.chain here.1)
+    (size_kept _ _ _ _ _ spells _ _ _ _ _ _ there c.links_at-before.ensures.read c.requires.apart c.requires.chain here.1)
 
 pub returns-clause-free : goal.returns-clause-free
 returns-clause-free g c =
@@ -159,9 +159,9 @@ pub returns-clause-from_cursor : goal.returns-clause-from_cursor
 returns-clause-from_cursor g c =
     let spells = spells_value _ _ _ _ _ c.self.invariant c.self.view_is in
     let there = slot_there c.args.self.now c.args.from.now _ c.in-Some.is c.requires.from in
-    let at = is_at _ _ _ _ _ spells _ _ _ c.member_at-member.result.now there c.member_at-member.ensures in
+    let at = is_at _ _ _ _ _ spells _ _ _ _ there c.links_at-before.ensures.read in
     let here = stands _ _ _ _ _ spells c.args.to.now c.requires.to c.requires.chain in
-    from_after _ _ _ _ _ spells _ _ _ _ _ _ there c.member_at-member.ensures c.requires.apart c.requires.chain here.1 c.member_at-member.result.now.next at.next
+    from_after _ _ _ _ _ spells _ _ _ _ _ _ there c.links_at-before.ensures.read c.requires.apart c.requires.chain here.1 c.links_at-before.result.1 at.next
     ∙ ap (λ x. cursor_at x c.args.from.now.chain c.args.from.now.index)
     (sym (spelled_is _ _ _ _ _ (after g (goal.at.returns-clause-from_cursor g c).After-with)))
 
@@ -171,7 +171,7 @@ returns-clause-to_cursor g c =
     let there = slot_there c.args.self.now c.args.from.now _ c.in-Some.is c.requires.from in
     let here = stands _ _ _ _ _ spells c.args.to.now c.requires.to c.requires.chain in
     ap (λ i. record { chain = c.args.to.now.chain; index = i; slot = Some c.in-Some.slot }) c.spot_before-previous.ensures.index
-    ∙ (to_after _ _ _ _ _ spells _ _ _ _ _ _ there c.member_at-member.ensures c.requires.apart c.requires.chain here.1
+    ∙ (to_after _ _ _ _ _ spells _ _ _ _ _ _ there c.links_at-before.ensures.read c.requires.apart c.requires.chain here.1
     ∙ ap (λ x. cursor_at x c.args.to.now.chain (index_of c.args.self.now c.args.to.now))
     (sym (spelled_is _ _ _ _ _ (after g (goal.at.returns-clause-to_cursor g c).After-with))))
 

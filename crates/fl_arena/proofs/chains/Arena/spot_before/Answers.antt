@@ -3,15 +3,15 @@ use Rattle.fl_arena.proofs.CursorLemmas.{is_taken, slot_there}
 use Rattle.fl_arena.proofs.CallLemmas.{spells_value, end_read, place_before, place_last}
 use Rattle.fl_arena.proofs.chains.Arena.spot_before.Goals as goal
 
-pub member_at-requires : goal.member_at-requires
-member_at-requires g c =
+pub links_at-requires : goal.links_at-requires
+links_at-requires g c =
     let spells = spells_value _ _ _ _ _ c.self.invariant c.self.view_is in
     is_taken _ _ _ _ _ spells _ _ _ (slot_there c.args.self.now c.args.cursor.now _ c.in-Some.is c.requires.in_place)
 
 pub returns-in-Some-clause-previous : goal.returns-in-Some-clause-previous
 returns-in-Some-clause-previous g c =
     let spells = spells_value _ _ _ _ _ c.self.invariant c.self.view_is in
-    (place_before _ _ _ _ _ spells c.args.cursor.now c.requires.in_place _ c.member_at.result.now c.in-Some.is c.member_at.ensures).0
+    (place_before _ _ _ _ _ spells c.args.cursor.now c.requires.in_place _ _ c.in-Some.is c.links_at.ensures.read).0
 
 pub returns-in-None-clause-previous : goal.returns-in-None-clause-previous
 returns-in-None-clause-previous g c =

@@ -15,21 +15,21 @@ overflow_add-cursor g c =
     let small = place.small in
     omega arith
 
-pub member_at-requires : goal.member_at-requires
-member_at-requires g c =
+pub links_at-requires : goal.links_at-requires
+links_at-requires g c =
     let spells = spells_value _ _ _ _ _ c.self.invariant c.self.view_is in
     is_taken _ _ _ _ _ spells _ _ _ (slot_there c.args.self.now c.args.cursor.now _ c.in-Some.is c.requires)
 
 pub returns-in-Some-clause-on : goal.returns-in-Some-clause-on
 returns-in-Some-clause-on g c _ =
     let spells = spells_value _ _ _ _ _ c.self.invariant c.self.view_is in
-    stepped _ _ _ _ _ spells c.args.cursor.now c.requires _ c.member_at.result.now c.in-Some.is c.member_at.ensures
+    stepped _ _ _ _ _ spells c.args.cursor.now c.requires _ _ c.in-Some.is c.links_at.ensures.read
 
 pub returns-in-Some-clause-in_range : goal.returns-in-Some-clause-in_range
 returns-in-Some-clause-in_range g c =
     let spells = spells_value _ _ _ _ _ c.self.invariant c.self.view_is in
     let there = slot_there c.args.self.now c.args.cursor.now _ c.in-Some.is c.requires in
-    let place = is_at _ _ _ _ _ spells _ _ _ c.member_at.result.now there c.member_at.ensures in
+    let place = is_at _ _ _ _ _ spells _ _ _ _ there c.links_at.ensures.read in
     within_slots _ _ _ _ _ spells c.args.cursor.now.chain (suc c.args.cursor.now.index) _ place.next
 
 pub returns-in-Some-clause-at_index : goal.returns-in-Some-clause-at_index
