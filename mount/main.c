@@ -113,10 +113,7 @@ static void take_away(void)
         return;
     server_drop(&it.server);
     times_drop();
-    if (record_read())
-        record_release();
-    else
-        record_remove();
+    record_release();
 }
 
 static void never_mounted(const char *why)
@@ -169,7 +166,7 @@ static void wait_until_ready(void)
     if (!carrier_is_agreed())
         never_mounted(init_fault(end, fault));
     if (!place_answers(&it.place, gives_up))
-        never_mounted("no name could be looked up");
+        never_mounted(it.ending ? "ended while it was mounted" : "no name could be looked up");
 }
 
 static void begin(void)

@@ -157,7 +157,7 @@ bool record_has_later(dev_t device);
 // `when`: by `seconds`, at a moment when the mount was there.
 void record_write(const char *path, dev_t device, double when);
 void record_remove(void);
-// Lets it go, as it is.
+// Lets it go, as it is. One that tells of no mount is removed.
 void record_release(void);
 
 // ---- carrier.c ----

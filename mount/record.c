@@ -140,17 +140,22 @@ bool record_has_later(dev_t device)
     return found;
 }
 
+static void close_record(bool removes)
+{
+    if (record < 0)
+        return;
+    if (removes)
+        unlink(record_path);
+    close(record);
+    record = -1;
+}
+
 void record_release(void)
 {
-    if (record >= 0)
-        close(record);
-    record = -1;
+    close_record(!record_read());
 }
 
 void record_remove(void)
 {
-    if (record < 0)
-        return;
-    unlink(record_path);
-    record_release();
+    close_record(true);
 }
