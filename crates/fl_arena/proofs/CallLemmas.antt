@@ -115,7 +115,7 @@ module _ {T : Type 0} where
       on ∙ (sym (link_at-remove_above (entries a c) i i (omega arith)) ∙ ap (λ (es : List (Entry T)). link_at es i) (sym same)) in
       ap (λ (l : Option ℕ). record { chain = c; index = i; slot = l }) slot
 
-  pub changed : (nodes : List (Held T)) (ends : List Ends) (spare : Option ℕ) (free : ℕ) (a : Chains T) (cursor : Cursor) (slot at : ℕ) (y : T) (m : Member T) →
+  changed : (nodes : List (Held T)) (ends : List Ends) (spare : Option ℕ) (free : ℕ) (a : Chains T) (cursor : Cursor) (slot at : ℕ) (y : T) (m : Member T) →
       Spells nodes ends spare free a → IsInPlace a cursor → cursor.slot ≡ Some slot → slice_get nodes slot ≡ Some (Taken m) → at ≡ slot →
       Spells (set nodes at (Taken (record m { item = y }))) ends spare free (with_item a cursor y)
   changed nodes ends spare free a cursor slot at y m h in_place named read same =

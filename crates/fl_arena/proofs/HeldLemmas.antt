@@ -65,7 +65,7 @@ module _ {T : Type 0} where
   item_of_read : (nodes : List (Held T)) (slot : ℕ) (chain previous next : Option ℕ) (item : T) → IsTaken nodes slot →
       slice_get nodes slot ≡ Some (held chain previous next (Filled item)) → HasItem nodes slot item
   item_of_read nodes slot None previous next item taken read = let both = sym taken.1 ∙ read in cc
-  item_of_read nodes slot (Some c) previous next item taken read = record { chain = c; before = previous; after = next; read = read }
+  item_of_read nodes slot (Some c) previous next item taken read = record { chain = c; previous = previous; next = next; read = read }
 
   pub links_read : (nodes : List (Held T)) (slot at : ℕ) (n : Held T) (chain previous next : Option ℕ) (room : Room T) → IsTaken nodes slot → at ≡ slot →
       n ≡ get_or nodes at n → held chain previous next room ≡ n → HasLinks nodes slot previous next

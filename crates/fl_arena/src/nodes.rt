@@ -41,8 +41,8 @@ impl<T> Room<T> {
     }
 }
 
-// What a slot holds: an item on a chain, or the next slot of the free list. A slot that was freed still has its item,
-// which no contract sees: to write over that takes as long as to put one in.
+// What a slot holds: an item on a chain, or the next slot of the free list. A slot that was freed keeps its item, which
+// no contract sees: to overwrite that would cost as much as an insert.
 #[derive(Drop)]
 pub(crate) struct Node<T: Copy> {
     // None if the slot is free.
@@ -65,7 +65,7 @@ impl<T: Copy> Model for Node<T> {
 impl<T: Copy> Node<T> {
     ghost use Rattle.fl_arena.specs.contracts.nodes.Node.{the_row};
 
-    fn free(next: Option<u16>) -> Node<T>
+    pub(crate) fn free(next: Option<u16>) -> Node<T>
         ensures { result ≡ Free next }
     {
         Node {
@@ -129,7 +129,7 @@ impl<T: Copy> Node<T> {
         }
     }
 
-    fn give_up(&mut self, next: Option<u16>)
+    fn set_free(&mut self, next: Option<u16>)
         ensures { self.new ≡ Free next }
     {
         self.chain = None;
@@ -304,7 +304,7 @@ pub(crate) fn link_out<T: Copy>(
         ≡ slice_set (relinked nodes.old.items links.0 links.1 links.0 links.1) slot (Free spare) }
 {
     relink(nodes, links.0, links.1, links.0, links.1);
-    nodes[usize::from(slot)].give_up(spare);
+    nodes[usize::from(slot)].set_free(spare);
 }
 
 // Takes a slot from between the first links, which lead to each other then, to between the second ones

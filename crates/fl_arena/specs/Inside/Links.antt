@@ -98,9 +98,10 @@ module _ {T : Type 0} where
   -- the slot holds this item
   pub record HasItem (nodes : List (Held T)) (slot : ℕ) (item : T) : Type 0 where
     pub chain : ℕ
-    pub before : Option ℕ
-    pub after : Option ℕ
-    pub read : slice_get nodes slot ≡ Some (Taken (record { chain = chain; previous = before; next = after; item = item }))
+    pub previous : Option ℕ
+    pub next : Option ℕ
+    pub read : slice_get nodes slot
+        ≡ Some (Taken (record { chain = chain; previous = previous; next = next; item = item }))
 
   -- the slot holds none
   abbrev pub IsSpare : List (Held T) → ℕ → Type 0
