@@ -160,13 +160,13 @@ static void wait_until_ready(void)
     enum end end;
     while ((end = carrier_end(&fault)) == RUNNING && !carrier_is_agreed() && seconds() < last) {
         if (stops())
-            never_mounted("ended while it was mounted");
+            never_mounted("a signal ended it as it started");
         sleep_for(STEP);
     }
     if (!carrier_is_agreed())
         never_mounted(init_fault(end, fault));
     if (!place_answers(&it.place, gives_up))
-        never_mounted(it.ending ? "ended while it was mounted" : "no name could be looked up");
+        never_mounted(it.ending ? "a signal ended it as it started" : "no name could be looked up");
 }
 
 static void begin(void)
@@ -316,8 +316,8 @@ static void end_mount(void)
 {
     place_unmount(&it.place, true);
     record_remove();
-    place_leave(&it.place);
     carrier_stop();
+    place_leave(&it.place);
 }
 
 static int end_by(int signal)

@@ -108,8 +108,8 @@ struct place {
     bool is_root;
 };
 
-// Opens the folder and refuses what can't be mounted at. Waits for an earlier mount of it until
-// `grace` seconds are over, and at least a moment.
+// Opens the folder and refuses what can't be mounted at. Waits a moment for an earlier mount of it that
+// ends, and as long as the grace says for its open files.
 void place_open(struct place *place, const struct options *options, bool (*stops)(void));
 // Mounts, and gives the open device, or -1 with a line said.
 int place_mount(struct place *place, const struct options *options);
@@ -157,7 +157,7 @@ bool record_has_later(dev_t device);
 // `when`: by `seconds`, at a moment when the mount was there.
 void record_write(const char *path, dev_t device, double when);
 void record_remove(void);
-// Lets it go, as it is. One that tells of no mount is removed.
+// Lets it go. One that is empty is removed.
 void record_release(void);
 
 // ---- carrier.c ----

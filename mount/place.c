@@ -209,25 +209,30 @@ static dev_t open_folder(struct place *place, const char *path)
     return device;
 }
 
-// Refuses a folder where a carrier's mount is. One whose carrier was killed is taken away if nobody
-// is left in it.
-static bool is_free(struct place *place, const struct options *options, enum record record, struct holders *holders)
+// What an earlier mount still is: nothing, one that is at the folder, one that was taken away and still
+// serves, or one of which files are still open.
+enum earlier { NONE, MOUNTED, SERVING, OPEN };
+
+// Looks for a mount at the folder. One whose carrier was killed is taken away if nobody is left in it.
+static enum earlier at_folder(struct place *place, const struct options *options, enum record record, struct holders *holders)
 {
     dev_t device = open_folder(place, options->folder);
     struct mounts found = find_mounts(getpid(), device, place->path);
     errno = 0;
+    if (!found.here && record == RECORD_TAKEN)
+        return SERVING;
     if (!found.here && found.elsewhere)
         fail("%s is in a folder that is mounted by lockd_mount", place->path);
     if (!found.here)
-        return true;
+        return NONE;
     if (record != RECORD_FREE || record_read() != device)
-        fail("%s is mounted by lockd_mount already", place->path);
+        return MOUNTED;
     find_holders(device, holders);
     if (holders->count)
-        return false;
+        return OPEN;
     if (!unmount(place->path, place->is_root, false) && !unmount(place->path, place->is_root, true))
         fail("cannot take the dead mount at %s away", place->path);
-    return is_free(place, options, record, holders);
+    return at_folder(place, options, record, holders);
 }
 
 static bool has_earlier_mount(struct holders *holders)
@@ -250,45 +255,53 @@ static bool take_folder(struct place *place)
     return !flock(place->folder, LOCK_EX | LOCK_NB) || errno != EWOULDBLOCK;
 }
 
-// Whether it can be mounted at. Else `why` says what is in the way, which may go, and `patience` how many seconds that may take.
-static bool is_ready(struct place *place, const struct options *options, char *why, size_t size, long *patience)
+// Takes the record and the folder, if no earlier mount is in the way.
+static enum earlier find_earlier(struct place *place, const struct options *options, struct holders *holders)
 {
-    struct holders holders = {0};
-    dev_t device = open_folder(place, options->folder);
-    enum record record = record_take(place->path);
-    const char *rest = "";
-    *patience = MOMENT;
-    if (record == RECORD_TAKEN && find_mounts(getpid(), device, place->path).here) {
-        snprintf(why, size, "%s is mounted by lockd_mount already", place->path);
-        return false;
-    }
-    if (record == RECORD_TAKEN || (is_free(place, options, record, &holders) && !take_folder(place)))
-        rest = "another lockd_mount, whose mount was taken away, still serves open files";
-    else if (holders.count || has_earlier_mount(&holders))
-        rest = "files are still open there, and who has them thinks that he holds his locks";
-    if (!*rest)
-        return true;
-    if (options->grace > MOMENT)
-        *patience = options->grace;
-    snprintf(why, size, "an earlier mount of %s isn't over: %s; processes %s", place->path, rest, holders_text(&holders));
-    record_release();
-    return false;
+    open_folder(place, options->folder);
+    enum earlier found = at_folder(place, options, record_take(place->path), holders);
+    if (found == NONE && !take_folder(place))
+        found = SERVING;
+    if (found == NONE && has_earlier_mount(holders))
+        found = OPEN;
+    if (found != NONE)
+        record_release();
+    return found;
+}
+
+static const char *why_not(const struct place *place, enum earlier found, const struct holders *holders)
+{
+    static char text[PATH_MAX + 512];
+    const char *rest = found == SERVING ? "another lockd_mount, whose mount was taken away, still serves open files"
+                                        : "files are still open there, and who has them thinks that he holds his locks";
+    if (found == MOUNTED)
+        snprintf(text, sizeof text, "%s is mounted by lockd_mount already", place->path);
+    else
+        snprintf(text, sizeof text, "an earlier mount of %s isn't over: %s; processes %s", place->path, rest, holders_text(holders));
+    return text;
 }
 
 void place_open(struct place *place, const struct options *options, bool (*stops)(void))
 {
-    char why[PATH_MAX + 512];
-    long patience;
-    double begun = seconds();
+    enum earlier found, before = NONE;
+    double begun = seconds(), since = begun;
+    bool said = false;
     *place = (struct place){.folder = -1, .is_root = !geteuid()};
-    for (bool said = false; !is_ready(place, options, why, sizeof why, &patience);) {
-        if (stops() || seconds() >= begun + (double)patience) {
-            errno = 0;
+    for (struct holders holders = {0}; (found = find_earlier(place, options, &holders)) != NONE; holders.count = 0) {
+        // One that is mounted may be about to end. It may also be dead, and another carrier looks at it for now.
+        if (found != before)
+            since = seconds();
+        before = found;
+        bool waits = found != MOUNTED && options->grace;
+        const char *why = why_not(place, found, &holders);
+        errno = 0;
+        if (seconds() >= (waits ? begun + (double)options->grace : found == MOUNTED ? since + MOMENT : begun + MOMENT))
             fail("%s", why);
-        }
-        if (!said && patience > MOMENT)
-            say("%s; waiting %ld seconds at most", why, patience);
-        said = said || patience > MOMENT;
+        if (waits && !said)
+            say("%s; waiting %ld seconds at most", why, options->grace);
+        said = said || waits;
+        if (stops())
+            fail("ended before anything was mounted");
         usleep(STEP);
     }
     if (!options->nonempty)

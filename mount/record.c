@@ -152,7 +152,8 @@ static void close_record(bool removes)
 
 void record_release(void)
 {
-    close_record(!record_read());
+    struct stat at;
+    close_record(record >= 0 && !fstat(record, &at) && !at.st_size);
 }
 
 void record_remove(void)

@@ -8,6 +8,7 @@
 #include <stdio.h>
 #include <stdlib.h>
 #include <string.h>
+#include <sys/prctl.h>
 #include <sys/socket.h>
 #include <sys/un.h>
 #include <sys/wait.h>
@@ -119,7 +120,7 @@ static void put_options(const char *words[], size_t count, const struct server *
         words[count++] = options->rules[i];
 }
 
-static void run_serve(const struct server *server, const struct options *options, int faults)
+static void run_serve(const struct server *server, const struct options *options, pid_t carrier, int faults)
 {
     const int ignored[] = {SIGHUP, SIGINT, SIGQUIT, SIGPIPE, SIGXFSZ, SIGTERM};
     const char *words[32] = {server->program, "serve", "socket"};
@@ -130,6 +131,10 @@ static void run_serve(const struct server *server, const struct options *options
     // that was killed is lost.
     for (size_t i = 0; i < sizeof ignored / sizeof *ignored - (options->resume ? 1 : 0); i++)
         signal(ignored[i], SIG_IGN);
+    // Such a one ends with a carrier that is killed, also before that has connected: it would keep its file locked. Each order that
+    // was answered is in there.
+    if (options->resume && (prctl(PR_SET_PDEATHSIG, SIGTERM) || getppid() != carrier))
+        _exit(127);
     sigset_t none;
     sigemptyset(&none);
     sigprocmask(SIG_SETMASK, &none, NULL);
@@ -183,9 +188,10 @@ static enum begun begin(struct server *server, const struct options *options, bo
 {
     server->socket = socket(AF_UNIX, SOCK_STREAM | SOCK_CLOEXEC, 0);
     int faults = server->socket < 0 ? -1 : faults_open(server->trace);
+    pid_t carrier = getpid();
     server->pid = faults < 0 ? -1 : fork();
     if (!server->pid)
-        run_serve(server, options, faults);
+        run_serve(server, options, carrier, faults);
     if (faults >= 0)
         close(faults);
     if (server->pid < 0) {

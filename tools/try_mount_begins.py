@@ -140,7 +140,9 @@ def try_a_folder_that_is_mounted_already():
     same(mount.end(), (0, "legal"))
     subprocess.run(["mount", "--bind", mount.folder, beside], check=True, timeout=PATIENCE)
     again = Mount(folder=mount.folder)
+    records = os.listdir("/run/lockd_mount")
     contains(refusal(folder=beside), "an earlier mount")
+    same(os.listdir("/run/lockd_mount"), records)
     same(again.end(), (0, "legal"))
     unmount(beside)
 
@@ -288,6 +290,15 @@ def try_term_before_it_is_mounted():
     contains(wrong, "ended before anything was mounted")
 
 
+def try_a_carrier_that_is_killed_as_its_server_starts_leaves_none():
+    begun = subprocess.Popen([PROGRAM, "--resume", f"{WORK}/never", tempfile.mkdtemp(dir=WORK)], env={**os.environ, "TMPDIR": WORK, "LOCKD": bad_server("never_listens")})
+    until(lambda: list(children_of(begun.pid)))
+    (server,) = [pid for pid, _ in children_of(begun.pid)]
+    begun.kill()
+    begun.wait(PATIENCE)
+    until(lambda: not os.path.exists(f"/proc/{server}"))
+
+
 def try_ready_is_not_said_before_init_and_a_lookup_are_answered():
     for how in "no_init", "no_lookup":
         folder, listening = tempfile.mkdtemp(dir=WORK), socket.socket(socket.AF_UNIX, socket.SOCK_DGRAM)
@@ -301,7 +312,7 @@ def try_ready_is_not_said_before_init_and_a_lookup_are_answered():
         begun.terminate()
         said, wrong = begun.communicate(timeout=PATIENCE)
         same((begun.returncode, said, is_mounted(folder), outcome(listening.recv, 4096)), (2, "", False, "EAGAIN"))
-        contains(wrong, "nothing is mounted")
+        same(wrong, "lockd_mount: a signal ended it as it started; nothing is mounted\n")
 
 
 def try_a_reply_of_a_bad_length():

@@ -27,18 +27,35 @@ def mounts_again(folder):
 def try_a_mount_that_ends_or_is_killed_is_followed_at_once():
     """One without a grace waits a moment for it: it hears of its end late, or isn't gone yet."""
     folder = tempfile.mkdtemp(dir=WORK)
-    for at in range(4):
+    for kills in (False, True) * 2:
         mount = Mount(folder=folder)
         shell(mount, "flock held echo in", "in")
         has_closed_files(folder)
-        if at % 2:
+        if kills:
             mount.running.kill()
         else:
             unmount(folder)
         again = Mount(folder=folder)
         shell(again, "flock -n held echo in", "in")
         same(again.end(), (0, "legal"))
-        mount.running.wait(PATIENCE)
+        same(mount.running.wait(PATIENCE), -signal.SIGKILL if kills else 0)
+
+
+def try_a_mount_is_followed_while_its_trace_is_judged():
+    slow = f"{tempfile.mkdtemp(dir=WORK)}/slow"
+    with open(slow, "w", encoding="ascii") as it:
+        it.write(f'#!/bin/sh\n[ "$1" != check ] || until [ -e {slow}.go ]; do sleep 0.1; done\nexec {os.environ["LOCKD"]} "$@"\n')
+    os.chmod(slow, 0o700)
+    mount = Mount(LOCKD=slow)
+    shell(mount, "flock held echo in", "in")
+    has_closed_files(mount.folder)
+    unmount(mount.folder)
+    again = Mount(folder=mount.folder)
+    same(mount.running.poll(), None)
+    shell(again, "flock -n held echo in", "in")
+    same(again.end(), (0, "legal"))
+    open(f"{slow}.go", "x").close()
+    same(mount.end(lambda: None), (0, "legal"))
 
 
 def try_end_by_umount():
