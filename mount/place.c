@@ -292,14 +292,15 @@ void place_open(struct place *place, const struct options *options, bool (*stops
         if (found != before)
             since = seconds();
         before = found;
-        bool waits = found != MOUNTED && options->grace;
+        double last = found == MOUNTED ? since + MOMENT : begun + (double)(options->grace > MOMENT ? options->grace : MOMENT);
         const char *why = why_not(place, found, &holders);
         errno = 0;
-        if (seconds() >= (waits ? begun + (double)options->grace : found == MOUNTED ? since + MOMENT : begun + MOMENT))
+        if (seconds() >= last)
             fail("%s", why);
-        if (waits && !said)
+        if (found != MOUNTED && options->grace && !said) {
             say("%s; waiting %ld seconds at most", why, options->grace);
-        said = said || waits;
+            said = true;
+        }
         if (stops())
             fail("ended before anything was mounted");
         usleep(STEP);
