@@ -32,7 +32,7 @@ static const char HELP[] =
     "                        mode (octal) and owner of the mounted folder; those of FOLDER, if not said\n"
     "  --discard-writes      take what is written and throw it away; else a write fails with EFBIG\n"
     "  --nonempty            mount over a folder that has files\n"
-    "  --grace S             wait so many seconds for open files, at the end and before it mounts, there at least 1; 0, if\n"
+    "  --grace S             wait so many seconds for open files, at the end and before it mounts, there at least 2; 0, if\n"
     "                        not said\n"
     "  --count               print at the end how many messages of each opcode the kernel sent\n"
     "  --help, --version\n"

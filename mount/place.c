@@ -18,7 +18,7 @@
 
 enum { STEP = 50000 }; // microseconds between two tries
 enum { PATIENCE = 10 }; // seconds until a lookup has to be answered
-enum { MOMENT = 1 }; // seconds that an earlier mount may take to end, also without a grace
+enum { MOMENT = 2 }; // seconds that an earlier mount may take to end, also without a grace
 
 // ---- fusermount3 ----
 
@@ -147,9 +147,10 @@ int place_mount(struct place *place, const struct options *options)
     return device;
 }
 
+// The kernel gives the number again at once, perhaps to what was mounted there after this.
 bool place_is_mounted(const struct place *place)
 {
-    return place->mounted && device_at(place->path) == place->mounted;
+    return place->mounted && device_at(place->path) == place->mounted && find_mounts(getpid(), place->mounted, place->path).here;
 }
 
 static bool unmount(const char *path, bool is_root, bool force)
@@ -209,8 +210,8 @@ static dev_t open_folder(struct place *place, const char *path)
     return device;
 }
 
-// What an earlier mount still is: nothing, one that is at the folder, one that was taken away and still
-// serves, or one of which files are still open.
+// What is in the way: nothing, a mount at the folder, a carrier that has the folder, or open files of a
+// mount whose carrier is gone.
 enum earlier { NONE, MOUNTED, SERVING, OPEN };
 
 // Looks for a mount at the folder. One whose carrier was killed is taken away if nobody is left in it.
@@ -230,9 +231,11 @@ static enum earlier at_folder(struct place *place, const struct options *options
     find_holders(device, holders);
     if (holders->count)
         return OPEN;
-    if (!unmount(place->path, place->is_root, false) && !unmount(place->path, place->is_root, true))
+    if (unmount(place->path, place->is_root, false))
+        return at_folder(place, options, record, holders);
+    if (errno != EBUSY)
         fail("cannot take the dead mount at %s away", place->path);
-    return at_folder(place, options, record, holders);
+    return OPEN;
 }
 
 static bool has_earlier_mount(struct holders *holders)
@@ -272,12 +275,15 @@ static enum earlier find_earlier(struct place *place, const struct options *opti
 static const char *why_not(const struct place *place, enum earlier found, const struct holders *holders)
 {
     static char text[PATH_MAX + 512];
-    const char *rest = found == SERVING ? "another lockd_mount, whose mount was taken away, still serves open files"
-                                        : "files are still open there, and who has them thinks that he holds his locks";
     if (found == MOUNTED)
         snprintf(text, sizeof text, "%s is mounted by lockd_mount already", place->path);
+    else if (found == SERVING)
+        snprintf(text, sizeof text, "another lockd_mount has %s: it starts, serves it at another path, or serves open files of a mount that was taken away",
+                 place->path);
     else
-        snprintf(text, sizeof text, "an earlier mount of %s isn't over: %s; processes %s", place->path, rest, holders_text(holders));
+        snprintf(text, sizeof text,
+                 "an earlier mount of %s isn't over: files are still open there, and who has them thinks that he holds his locks; processes %s",
+                 place->path, holders_text(holders));
     return text;
 }
 

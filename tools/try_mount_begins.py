@@ -141,7 +141,7 @@ def try_a_folder_that_is_mounted_already():
     subprocess.run(["mount", "--bind", mount.folder, beside], check=True, timeout=PATIENCE)
     again = Mount(folder=mount.folder)
     records = os.listdir("/run/lockd_mount")
-    contains(refusal(folder=beside), "an earlier mount")
+    contains(refusal(folder=beside), f"another lockd_mount has {beside}")
     same(os.listdir("/run/lockd_mount"), records)
     same(again.end(), (0, "legal"))
     unmount(beside)

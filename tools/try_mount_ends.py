@@ -24,8 +24,9 @@ def mounts_again(folder):
     same(mount.end(), (0, "legal"))
 
 
-def try_a_mount_that_ends_or_is_killed_is_followed_at_once():
-    """One without a grace waits a moment for it: it hears of its end late, or isn't gone yet."""
+def try_a_mount_that_ends_or_is_killed_is_followed_at_once(_):
+    """One without a grace waits a moment for it: it hears of its end late, or isn't gone yet. The tries beside each other make namespaces, which keep mounts
+    longer: so this is none of them."""
     folder = tempfile.mkdtemp(dir=WORK)
     for kills in (False, True) * 2:
         mount = Mount(folder=folder)
@@ -41,7 +42,7 @@ def try_a_mount_that_ends_or_is_killed_is_followed_at_once():
         same(mount.running.wait(PATIENCE), -signal.SIGKILL if kills else 0)
 
 
-def try_a_mount_is_followed_while_its_trace_is_judged():
+def try_a_mount_is_followed_while_its_trace_is_judged(_):
     slow = f"{tempfile.mkdtemp(dir=WORK)}/slow"
     with open(slow, "w", encoding="ascii") as it:
         it.write(f'#!/bin/sh\n[ "$1" != check ] || until [ -e {slow}.go ]; do sleep 0.1; done\nexec {os.environ["LOCKD"]} "$@"\n')
@@ -209,7 +210,7 @@ def try_a_lazy_umount_keeps_others_out_while_files_are_open():
     one, two = held_and_waited_for(mount)
     subprocess.run(["umount", "-l", mount.folder], timeout=PATIENCE, check=True)
     assert two.waits() and not mount.is_mounted()
-    contains(refusal(folder=mount.folder), "an earlier mount", "still serves open files")
+    contains(refusal(folder=mount.folder), f"another lockd_mount has {mount.folder}")
     waiting = subprocess.Popen([PROGRAM, "--grace", str(PATIENCE), "--trace", "none", mount.folder], stdout=subprocess.PIPE, stderr=subprocess.DEVNULL, text=True)
     time.sleep(0.3)
     same((waiting.poll(), is_mounted(mount.folder)), (None, False))
@@ -243,7 +244,7 @@ def try_a_mount_kept_in_another_namespace_keeps_others_out():
     same(inside.stdout.readline(), "in\n")
     unmount(mount.folder)
     same((mount.running.poll(), mount.is_mounted()), (None, False))
-    contains(refusal(folder=mount.folder), "an earlier mount")
+    contains(refusal(folder=mount.folder), f"another lockd_mount has {mount.folder}")
     inside.communicate("end\n", timeout=PATIENCE)
     same(mount.end(lambda: None), (0, "legal"))
     mounts_again(mount.folder)
@@ -258,6 +259,31 @@ def try_term_where_another_namespace_has_it_mounted():
     mount.says("mounted elsewhere too")
     mounts_again(mount.folder)
     inside.communicate("end\n", timeout=PATIENCE)
+
+
+def try_a_dead_mount_stays_while_a_file_of_it_is_under_way():
+    """No process has the file. Who gets it has its lock."""
+    mount, (one, two) = Mount(), socket.socketpair()
+    with open(f"{mount.folder}/held", "w", encoding="ascii") as it:
+        fcntl.flock(it, ALONE)
+        socket.send_fds(one, [b"held"], [it.fileno()])
+    mount.end(mount.running.kill)
+    contains(refusal(folder=mount.folder), "files are still open there", "processes that can't be seen")
+    same((mount.is_mounted(), outcome(os.listdir, mount.folder)), (True, "ENOTCONN"))
+    one.close()
+    two.close()
+    mounts_again(mount.folder)
+
+
+def try_what_is_mounted_there_next_stays():
+    """The kernel gives it the same number, perhaps before the carrier sees that its mount is gone."""
+    for _ in range(5):
+        mount = Mount("--trace", "none")
+        unmount(mount.folder)
+        subprocess.run(["mount", "-t", "tmpfs", "next", mount.folder], check=True, timeout=PATIENCE)
+        same(mount.end(lambda: None), (0, "lockd_mount: the folder was unmounted"))
+        assert mount.is_mounted()
+        unmount(mount.folder)
 
 
 def try_a_container_keeps_a_dead_mount_at_another_path():
