@@ -131,8 +131,8 @@ static void run_serve(const struct server *server, const struct options *options
     // that was killed is lost.
     for (size_t i = 0; i < sizeof ignored / sizeof *ignored - (options->resume ? 1 : 0); i++)
         signal(ignored[i], SIG_IGN);
-    // Such a one ends with a carrier that is killed, also before that has connected: it would keep its file locked. Each order that
-    // was answered is in there.
+    // It ends with a carrier that is killed, also before that has connected, or its file would stay
+    // locked. Each order that was answered is in there.
     if (options->resume && (prctl(PR_SET_PDEATHSIG, SIGTERM) || getppid() != carrier))
         _exit(127);
     sigset_t none;

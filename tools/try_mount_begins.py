@@ -296,7 +296,7 @@ def try_a_carrier_that_is_killed_as_its_server_starts_leaves_none():
     (server,) = [pid for pid, _ in children_of(begun.pid)]
     begun.kill()
     begun.wait(PATIENCE)
-    until(lambda: not os.path.exists(f"/proc/{server}"))
+    until(lambda: state_of(f"/proc/{server}") in ("X", "Z"))
 
 
 def try_ready_is_not_said_before_init_and_a_lookup_are_answered():
