@@ -6,7 +6,8 @@
 #     bench/directory_by_size.sh [--instructions]
 #
 # With --instructions it prints, in place of times, how many instructions orders take, by valgrind's callgrind: the difference of two runs, one with
-# twice as many orders. OPEN stands with RELEASE, SETLK with FLUSH, and CREATE with what ends a file, since a run leaves as many files as there were.
+# twice as many orders. As with times, an order is there before it is counted. OPEN stands with RELEASE, SETLK with FLUSH, and CREATE with what ends a
+# file, since a run leaves as many files as there were.
 set -eu
 cd "$(dirname "$0")/.."
 program=$(tools/build_bench directory_bench)
@@ -34,7 +35,7 @@ def times(size):
 def instructions(size, word):
     """Of one of each order that the word names."""
     def collected(rounds):
-        ran = run([size, rounds, word], "valgrind", "--tool=callgrind", "--callgrind-out-file=/dev/null")
+        ran = run([size, rounds, word], "valgrind", "--tool=callgrind", "--toggle-collect=directory_bench::ask", "--callgrind-out-file=/dev/null")
         return int(re.search(r"Collected : (\d+)", ran.stderr).group(1))
     return (collected(512) - collected(256)) / (256 * ROUND)
 

@@ -16,7 +16,7 @@ use std::env;
 use std::time::{Clock, Instant};
 
 // How many files are asked for in a round.
-const ROUND: u64 = 16;
+const ROUND: usize = 16;
 
 // From one file to the next that is asked for, counted by their numbers: a prime, so that all come, and none soon after its neighbour.
 const STRIDE: u64 = 7919;
@@ -65,6 +65,14 @@ struct File {
     fh: u64,
     second: u64,
 }
+
+const NOTHING: File = File {
+    number: 0,
+    node: 0,
+    lookups: 0,
+    fh: 0,
+    second: 0,
+};
 
 fn digit(number: u64, place: u64) -> u8 {
     let cut = number.checked_div(place).unwrap_or(0) % 10;
@@ -160,13 +168,13 @@ fn after(file: File, reply: Answer) -> File {
     }
 }
 
-// Asks it, and gives whether there was no error.
-fn ask(core: &mut Core, tolds: &mut Tolds, kind: Kind, file: &mut File) -> bool
+// Asks it of a file, and gives whether there was no error.
+fn ask(core: &mut Core, tolds: &mut Tolds, order: &Order, file: &mut File) -> bool
     requires { HasRoom core.old.rules tolds.old }
     ensures rules { core.new.rules ≡ core.old.rules }
     ensures room { tolds.new.room ≡ tolds.old.room }
 {
-    core.step(&order(kind, file), tolds);
+    core.step(order, tolds);
     match tolds.as_slice() {
         [Told { result: Ok(reply), .. }] => {
             *file = after(*file, *reply);
@@ -190,8 +198,10 @@ fn made(alloc: Global, core: &mut Core, tolds: &mut Tolds, count: u64) -> anyhow
             fh: 0,
             second: 0,
         };
-        ask(core, tolds, Kind::Create, &mut file);
-        ask(core, tolds, Kind::Lock, &mut file);
+        let create = order(Kind::Create, &file);
+        ask(core, tolds, &create, &mut file);
+        let lock = order(Kind::Lock, &file);
+        ask(core, tolds, &lock, &mut file);
         files.push(file)?;
     }
     Ok(files)
@@ -205,7 +215,25 @@ struct Spent {
     nanos: u128,
 }
 
-// Asks it for each file of a round that begins at this place.
+// The index of the file at this place of so many.
+fn index_at(place: u64, count: u64) -> usize {
+    place.saturating_mul(STRIDE).checked_rem(count).unwrap_or(0) as usize
+}
+
+// What is asked of each file of a round that begins at this place.
+fn orders_of(kind: Kind, files: &Vec<File>, first: u64) -> [Order; ROUND] {
+    let mut orders = [order(kind, &NOTHING); ROUND];
+    for at in 0..ROUND {
+        let place = first.saturating_add(at as u64);
+        if let Some(file) = files.get(index_at(place, files.len() as u64)) {
+            orders[at] = order(kind, file);
+        }
+    }
+    orders
+}
+
+// Asks it for each file of a round that begins at this place. The orders are made before the clock is read: to copy one takes
+// as long as to answer a GETATTR.
 fn ask_each<R: Clock>(
     rt: &R,
     core: &mut Core,
@@ -218,11 +246,12 @@ fn ask_each<R: Clock>(
     ensures { HasRoom core.new.rules tolds.new }
 {
     let count = files.len() as u64;
+    let orders = orders_of(spent.kind, files, first);
     let begun = Instant::now(rt)?;
-    for place in first..first.saturating_add(ROUND) {
-        let at = place.saturating_mul(STRIDE).checked_rem(count).unwrap_or(0);
-        if let Some(file) = files.get_mut(at as usize) {
-            if ask(core, tolds, spent.kind, file) {
+    for at in 0..ROUND {
+        let place = first.saturating_add(at as u64);
+        if let Some(file) = files.get_mut(index_at(place, count)) {
+            if ask(core, tolds, &orders[at], file) {
                 spent.done = spent.done.saturating_add(1);
             }
         }
@@ -289,7 +318,7 @@ fn ask_rounds<R: Clock>(
     ensures { HasRoom core.new.rules tolds.new }
 {
     for round in 0..rounds {
-        let first = round.saturating_mul(ROUND);
+        let first = round.saturating_mul(ROUND as u64);
         ask_round(rt, core, tolds, files, first, all)?;
     }
     Ok(())
