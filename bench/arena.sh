@@ -6,7 +6,7 @@ set -eu
 top=$(cd "$(dirname "$0")/.." && pwd)
 work=$(mktemp -d)
 trap 'rm -rf "$work"' EXIT
-program=$("$top/tools/build_bench" arena_bench)
+program=$("$top/bench/build" arena_bench)
 rustc -O -o "$work/list" "$top/bench/arena_list.rs"
 seconds() {
     python3 -c 'import subprocess, sys, time

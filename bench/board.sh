@@ -5,7 +5,7 @@
 # and the least time of each counts, less that of a run with no order.
 set -eu
 cd "$(dirname "$0")/.."
-program=$(tools/build_bench board_bench)
+program=$(bench/build board_bench)
 python3 - "$program" <<'END'
 import subprocess, sys, time
 

@@ -13,7 +13,7 @@
 # What dominates: for each request that is visited, the table is asked once for all owners of parked requests, and once for the
 # one who asks. Each time it walks along the rows of the file's owners, and into those of owners who are asked for.
 set -eu
-. "$(dirname "$0")/../tools/built_lockd.sh"
+. "$(dirname "$0")/../dev/built_lockd.sh"
 python3 - "$program" "$work" <<'END'
 import os, subprocess, sys
 

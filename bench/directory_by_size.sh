@@ -10,7 +10,7 @@
 # file, since a run leaves as many files as there were.
 set -eu
 cd "$(dirname "$0")/.."
-program=$(tools/build_bench directory_bench)
+program=$(bench/build directory_bench)
 python3 - "$program" "${1:-}" <<'END'
 import re, subprocess, sys
 

@@ -7,8 +7,8 @@
 set -eu
 top=$(cd "$(dirname "$0")/.." && pwd)
 other=$(cd "$1" && pwd)
-here=$("$top/tools/build_bench" history_bench)
-before=$("$top/tools/build_bench" history_bench "$other")
+here=$("$top/bench/build" history_bench)
+before=$("$top/bench/build" history_bench "$other")
 python3 - "$here" "$before" <<'END'
 import os, subprocess, sys, time
 

@@ -4,7 +4,7 @@
 # wait again. The time is that of all threads, user and system, by /proc/PID/stat, which counts in ticks of 10 ms. It
 # has to be about 0.
 set -eu
-. "$(dirname "$0")/../tools/built_lockd.sh"
+. "$(dirname "$0")/../dev/built_lockd.sh"
 python3 - "$program" "$work" <<'END'
 import os, socket, struct, subprocess, sys, time
 

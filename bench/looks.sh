@@ -6,7 +6,7 @@
 # less that of a run with no look.
 set -eu
 cd "$(dirname "$0")/.."
-program=$(tools/build_bench board_bench)
+program=$(bench/build board_bench)
 python3 - "$program" <<'END'
 import subprocess, sys, time
 

@@ -2,13 +2,13 @@
 # How much memory `lockd serve` takes where it holds as much as its rules allow: under the standard rules, with 65,536 files and open files, and with as
 # many locks too; with 1 and 4 workers, and no trace. Prints its megabytes (VmRSS) once all is held, and sees that one more of each is refused.
 set -eu
-. "$(dirname "$0")/../tools/built_lockd.sh"
+. "$(dirname "$0")/../dev/built_lockd.sh"
 LOCKD=$program python3 - <<'END'
 import struct, sys
 
 sys.dont_write_bytecode = True
-sys.path.insert(0, "tools")
-from tries import INIT, Server, message, replies, take
+sys.path.insert(0, ".")
+from tests.tries import INIT, Server, message, replies, take
 
 AT_A_TIME, ENOSPC, ENFILE, ENOLCK = 64, 28, 23, 37
 FILES = ["--files", "65536", "--open", "65536"]

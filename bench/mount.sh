@@ -1,6 +1,6 @@
 #!/bin/sh
 # Times F_SETLK, set and dropped, through a mount, with 1 and 8 processes that each have a file of their own:
-#   lockd   a folder that mount/out/lockd_mount has mounted, with 1 and 4 workers;
+#   lockd   a folder that programs/mount/out/lockd_mount has mounted, with 1 and 4 workers;
 #   null    a FUSE file system in C of one thread that answers 0 to each message: the floor of any FUSE server;
 #   memory  files in /dev/shm, with no server.
 # Each process makes as many calls as the argument says (else 20,000), four times as many in memory, and a tenth
@@ -21,11 +21,11 @@ for word in "$@"; do
         *) calls=$word ;;
     esac
 done
-. "$(dirname "$0")/../tools/built_lockd.sh"
+. "$(dirname "$0")/../dev/built_lockd.sh"
 for source in null_fuse fcntl; do
     cc -O2 -Wall -Wextra -o "$work/$source" "bench/peers/$source.c"
 done
-mount/build
+programs/mount/build
 unshare --mount --propagation private --pid --fork --kill-child --mount-proc \
     python3 - "$(realpath "$program")" "$work" "${calls:-0}" "$resumes" <<'END'
 import contextlib, itertools, os, shutil, statistics, subprocess, sys, tempfile
@@ -46,7 +46,7 @@ def server(files, folder):
     if files == "null":
         return [f"{WORK}/null_fuse", folder]
     trace = "--resume" if files.endswith("resume") else "--trace"
-    return ["mount/out/lockd_mount", folder, "--workers", files.split()[1], trace, f"{WORK}/trace{next(NUMBER)}"]
+    return ["programs/mount/out/lockd_mount", folder, "--workers", files.split()[1], trace, f"{WORK}/trace{next(NUMBER)}"]
 
 # The best total of pairs a second, and the median of the processes' p50 in nanoseconds.
 def timed(folder, processes, calls):

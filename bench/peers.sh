@@ -13,7 +13,7 @@
 #
 #     bench/peers.sh [MESSAGES]
 set -eu
-. "$(dirname "$0")/../tools/built_lockd.sh"
+. "$(dirname "$0")/../dev/built_lockd.sh"
 for source in client echo fcntl; do
     cc -O2 -Wall -Wextra -o "$work/$source" "bench/peers/$source.c"
 done

@@ -6,13 +6,13 @@
 #
 #     bench/served_by_files.sh [ORDERS]
 set -eu
-. "$(dirname "$0")/../tools/built_lockd.sh"
+. "$(dirname "$0")/../dev/built_lockd.sh"
 LOCKD=$program python3 - "${1:-100000}" <<'END'
 import itertools, struct, sys, threading
 
 sys.dont_write_bytecode = True
-sys.path.insert(0, "tools")
-from tries import INIT, Server, message, replies, take
+sys.path.insert(0, ".")
+from tests.tries import INIT, Server, message, replies, take
 
 ORDERS, RUNS, UNDER_WAY = int(sys.argv[1]), 5, 1_000
 SIZES = 16, 256, 4_096, 60_000

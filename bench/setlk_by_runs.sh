@@ -14,7 +14,7 @@ cd "$(dirname "$0")/.."
 work=$(mktemp -d)
 trap 'rm -rf "$work"' EXIT
 trap 'exit 1' INT TERM
-program=$(tools/build_bench locks_bench)
+program=$(bench/build locks_bench)
 cc -O2 -Wall -Wextra -o "$work/locks" bench/peers/locks.c
 python3 - "$program" "$work/locks" "${1:-}" <<'END'
 import re, resource, subprocess, sys, time

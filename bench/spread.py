@@ -22,7 +22,7 @@ from functools import lru_cache
 from hashlib import sha256
 
 sys.dont_write_bytecode = True
-sys.path.insert(0, f"{os.path.dirname(os.path.dirname(os.path.realpath(__file__)))}/tools")
+sys.path.insert(0, f"{os.path.dirname(os.path.dirname(os.path.realpath(__file__)))}/programs")
 from report.locks import wish_of
 from report.session import Session
 from report.trace import read_trace

@@ -2,7 +2,7 @@
 # Makes traces, and spreads their files over 2 to 16 servers on paper (bench/spread.py says how). Each trace is of one server and one client:
 #   peers       the client of bench/peers.sh locks and unlocks on 64 files, 64 messages under way;
 #   circles     as in bench/circles.sh, 255 requests wait in a row, each on a file of its own, and 20 would close the circle (`lockd script`);
-#   programs    tools/try_programs: the programs of others that are installed here take their locks on two mounts, three processes each;
+#   programs    tests/mount/programs.sh: the programs of others that are installed here take their locks on two mounts, three processes each;
 #   flock       flock(1) locks a file for each program of /usr/bin (4,000 at most), 8 at a time, on a mount;
 #   two of any  on a mount, 16 processes lock two of 32 files one after the other, by F_SETLKW, and hold each for 2 ms: any two of them, in any order.
 #               After EDEADLK a process drops what it has;
@@ -11,7 +11,7 @@
 #
 #     bench/spread.sh [FOLDER]      (FOLDER gets the traces, and stays; but for the row of circles, those that it has aren't made again)
 set -eu
-. "$(dirname "$0")/../tools/built_lockd.sh"
+. "$(dirname "$0")/../dev/built_lockd.sh"
 program=$(realpath "$program")
 number=0
 kept=$(realpath -m "${1:-$work/kept}")
@@ -45,7 +45,7 @@ set -- "peers=$kept/peers.trace" "circles=$kept/circles.trace"
 
 apart='unshare --mount --propagation private --pid --fork --kill-child --mount-proc'
 if [ "$(id -u)" -eq 0 ] && [ -c /dev/fuse ] && $apart true 2> /dev/null; then
-    mount/build
+    programs/mount/build
     # lockd_mount with a trace, also where none is asked for.
     cat > "$work/lockd_mount" <<END
 #!/bin/sh
@@ -54,11 +54,11 @@ for word; do
     [ "\$word" != none ] || word=$work/programs.\$\$
     set -- "\$@" "\$word"
 done
-exec "$PWD/mount/out/lockd_mount" "\$@"
+exec "$PWD/programs/mount/out/lockd_mount" "\$@"
 END
     chmod 755 "$work/lockd_mount"
     if ! [ -e "$kept/programs1.trace" ]; then
-        LOCKD=$program LOCKD_MOUNT=$work/lockd_mount tools/try_programs > "$work/said" || cat "$work/said" >&2
+        LOCKD=$program LOCKD_MOUNT=$work/lockd_mount tests/mount/programs.sh > "$work/said" || cat "$work/said" >&2
         for it in "$work"/programs.*; do
             keep "$it" "programs$((number += 1))"
         done
@@ -77,7 +77,7 @@ def traced(name, fill, *options):
     if os.path.exists(f"{KEPT}/{name}.trace"):
         return
     folder = tempfile.mkdtemp(dir=WORK)
-    command = ["mount/out/lockd_mount", *options, "--trace", f"{WORK}/{name}", folder]
+    command = ["programs/mount/out/lockd_mount", *options, "--trace", f"{WORK}/{name}", folder]
     serving = subprocess.Popen(command, stdout=subprocess.PIPE, stderr=subprocess.DEVNULL, text=True, env={**os.environ, "LOCKD": PROGRAM})
     try:
         assert serving.stdout.readline().startswith("mounted")

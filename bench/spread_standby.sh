@@ -6,7 +6,7 @@
 #
 #     bench/spread_standby.sh [LOCKS]
 set -eu
-. "$(dirname "$0")/../tools/built_lockd.sh"
+. "$(dirname "$0")/../dev/built_lockd.sh"
 apart='unshare --mount --propagation private --pid --fork --kill-child --mount-proc'
 [ "$(id -u)" -eq 0 ] && [ -c /dev/loop-control ] && command -v mkfs.ext4 > /dev/null && $apart true 2> /dev/null || {
     echo 'spread_standby.sh: not tried: no root, no loop devices or no mkfs.ext4' >&2
@@ -16,8 +16,8 @@ LOCKD=$(realpath "$program") $apart python3 - "$work" "${1:-1000}" <<'END'
 import os, shutil, struct, subprocess, sys
 
 sys.dont_write_bytecode = True
-sys.path.insert(0, "tools")
-from tries import CREATE, INIT, Server, lock, take
+sys.path.insert(0, ".")
+from tests.tries import CREATE, INIT, Server, lock, take
 
 WORK, LOCKS = sys.argv[1], int(sys.argv[2])
 GETLK, SETLK, WRITE, FREE = 31, 32, 1, 2

@@ -11,10 +11,10 @@
 #
 #     bench/trace.sh [--resume] [MESSAGES]
 set -eu
-. "$(dirname "$0")/../tools/built_lockd.sh"
+. "$(dirname "$0")/../dev/built_lockd.sh"
 cc -O2 -Wall -Wextra -o "$work/client" bench/peers/client.c
 desk=
-if [ "${1:-}" = --resume ]; then shift; else desk=$(tools/build_bench history_bench); fi
+if [ "${1:-}" = --resume ]; then shift; else desk=$(bench/build history_bench); fi
 python3 - "$program" "$work" "${1:-1000000}" "$desk" <<'END'
 import itertools, os, socket, statistics, struct, subprocess, sys, time
 

@@ -11,7 +11,7 @@
 # its node. The unlock that frees 256 spends its time setting their locks, so it stands beside 256 SETLKs that set the
 # same locks with nothing in the way.
 set -eu
-. "$(dirname "$0")/../tools/built_lockd.sh"
+. "$(dirname "$0")/../dev/built_lockd.sh"
 python3 - "$program" "$work" <<'END'
 import os, struct, subprocess, sys
 

@@ -1,4 +1,4 @@
-//! A desk and its history, the text of histories, and what is said of them. `tools/try_check` tries the same with many
+//! A desk and its history, the text of histories, and what is said of them. `tests/commands/check.py` tries the same with many
 //! texts, over the built program.
 
 ghost use Rattle.fl_core.specs.Tolds.{HasRoom};

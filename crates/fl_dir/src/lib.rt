@@ -3,7 +3,7 @@
 //! Each call answers by the first of its tests that fails, and a refusal changes nothing. A node is gone in the
 //! change that takes its last name, lookup or open file away. No call but `Dir::new` can be refused for memory. The
 //! tests stand inside, since they need what is private: the ends of counts and numbers, which no caller reaches soon.
-//! `tools/try_directory` has the others.
+//! `tests/locks/directory.py` has the others.
 #![tactic(auto)]
 
 mod chain;

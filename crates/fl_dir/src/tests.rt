@@ -1,4 +1,4 @@
-//! Tests of the directory where its numbers are at their ends. `tools/try_directory`, `tools/try_ranges` and
-//! `tools/try_locks` have the others.
+//! Tests of the directory where its numbers are at their ends. `tests/locks/directory.py`, `tests/locks/ranges.py` and
+//! `tests/locks/listing.py` have the others.
 
 mod last_numbers;

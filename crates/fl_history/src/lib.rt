@@ -3,7 +3,7 @@
 //!
 //! What is kept of a line leads back to exactly that line, and lines that come later change nothing of it. A journal
 //! that has the room which is asked for isn't refused it. Contracts let through a `Lines` that is refused memory that
-//! is there; tests refuse it. `tools/try_check` compares 120,000 lines with what was asked.
+//! is there; tests refuse it. `tests/commands/check.py` compares 120,000 lines with what was asked.
 #![tactic(auto)]
 
 mod chunks;

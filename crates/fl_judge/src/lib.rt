@@ -9,10 +9,10 @@
 //! no of lines that begin no legal history. No contract says:
 //! - how much memory is taken: that `Judge::hear` and `into_resumed` take none, and an audit no more than it says, is
 //!   seen in the code;
-//! - that `audit`, `hear_first` and `hear_cut` read on after a bad line, or the last that is wanted (`tools/try_check`),
+//! - that `audit`, `hear_first` and `hear_cut` read on after a bad line, or the last that is wanted (`tests/commands/check.py`),
 //!   nor what they say of a reader whose bytes aren't known;
-//! - that they tell a failed read or `NoMemory` only if there was one: `tools/try_pieces` and
-//!   `tools/refuse_each_allocation.sh` see that.
+//! - that they tell a failed read or `NoMemory` only if there was one: `tests/commands/pieces.py` and
+//!   `tests/commands/allocations.sh` see that.
 #![tactic(auto)]
 
 mod asking;

@@ -1,4 +1,4 @@
-//! Both texts of a file whose name isn't known, which no program lists. `tools/try_locks` and `tools/try_ranges` have
+//! Both texts of a file whose name isn't known, which no program lists. `tests/locks/listing.py` and `tests/locks/ranges.py` have
 //! the others.
 
 use crate::{lock_json, lock_table};

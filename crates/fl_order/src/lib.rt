@@ -2,7 +2,7 @@
 //! error numbers and names. How they are spelled in bytes is another crate's.
 //!
 //! No two kinds share an opcode or a word. An op is its kind and its body, and nothing else; one that asks for a lock
-//! is its kind and its lock request. `tools/try_messages` tries what messages ask.
+//! is its kind and its lock request. `tests/serve/messages.py` tries what messages ask.
 #![tactic(auto)]
 
 mod body;

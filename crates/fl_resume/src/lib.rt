@@ -5,7 +5,7 @@
 //! of a server. Contracts let through a `resume`
 //! - that says `NoMemory` having read nothing, or that the file isn't whole though it is;
 //! - that writes nothing to the file before a reply waits, and what `fl_session`, `fl_stream` and `fl_judge` let through.
-//! `tools/try_sessions` and `tools/try_resumed` refuse these.
+//! `tests/serve/sessions.py` and `tests/resume/kills.py` refuse these.
 #![tactic(auto)]
 
 mod ahead;

@@ -11,7 +11,7 @@
 //! - tells `Read`, `Write` or `Unstored` early, since contracts see no failure of a reader, a writer or a journal, or goes
 //!   on reading once lines couldn't be stored;
 //! - sends its replies only at its end, or doesn't flush its journal before a read where no reply waits.
-//! `tools/try_sessions` and `tools/try_failing` refuse these.
+//! `tests/serve/sessions.py` and `tests/serve/failing.py` refuse these.
 #![tactic(auto)]
 
 mod again;

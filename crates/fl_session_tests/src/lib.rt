@@ -1,5 +1,5 @@
 //! Tests of what the program never calls: an outbox that says whether a reply went out, and a session over memory.
-//! `tools/try_sessions` has the tests of sessions.
+//! `tests/serve/sessions.py` has the tests of sessions.
 #![tactic(auto)]
 
 #[cfg(test)]

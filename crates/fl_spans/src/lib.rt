@@ -6,7 +6,7 @@
 //! once, by `Rows::new`.
 //!
 //! Left open: which slot has which run, which head has which chain, and how many spans a walk looks at. A `find` that
-//! goes on after the range gives the same answer. `tools/try_ranges` compares the locks of the built program with a
+//! goes on after the range gives the same answer. `tests/locks/ranges.py` compares the locks of the built program with a
 //! plain grid of bytes.
 #![tactic(auto)]
 

@@ -12,7 +12,7 @@
 //! - a `finish`, or at `Refuse` and `End` a `flush` or a `store`, that says no though no write failed;
 //! - at `GoOn`, a `store` that writes;
 //! - a `write_trace` that is always refused, tells a failed write though none failed, or takes more memory.
-//! `fl_stream_tests` and `tools/try_traces` refuse these.
+//! `fl_stream_tests` and `tests/serve/traces.py` refuse these.
 #![tactic(auto)]
 
 mod manner;

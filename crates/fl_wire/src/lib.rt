@@ -5,7 +5,7 @@
 //! FORGETs. No call that reads can be refused for memory.
 //!
 //! No proof says that a Linux kernel sends and reads these bytes: the layouts were copied from `fuse.h` by hand.
-//! `tools/try_messages` has messages and replies that were laid out from it by hand as well.
+//! `tests/serve/messages.py` has messages and replies that were laid out from it by hand as well.
 #![tactic(auto)]
 
 mod append;

@@ -11,8 +11,7 @@
 //! - a `main` that prints no refusal, or ends with another status;
 //! - a `hold_closed_streams` that holds none.
 //!
-//! The scripts of the gate meet these: `tools/try_commands`, `try_words`, `try_sockets`, `try_ends`, `try_traces` and
-//! `try_limits`.
+//! The scripts of `tests/commands` and `tests/serve` meet these.
 #![tactic(auto)]
 
 ghost use Rattle.std.specs.Prelude.{IfOk};

@@ -12,11 +12,11 @@
 //! - a `command` that lets words through that no command takes, as `--resume` beside `--trace`.
 //!
 //! These tests refuse most of them:
-//! - words that are refused, `--resume`, `--quiet`, `--cut`, `--verbose`, and rules: `tools/try_words` and
-//!   `tools/try_commands`;
-//! - the number of workers: `try_the_number_of_threads` of `tools/try_ends`;
-//! - the socket: `tools/try_sockets`;
-//! - `--trace` and `--trace-full`: `tools/try_traces`.
+//! - words that are refused, `--resume`, `--quiet`, `--cut`, `--verbose`, and rules: `tests/commands/words.py` and
+//!   `tests/commands/texts.py`;
+//! - the number of workers: `try_the_number_of_threads` of `tests/serve/sessions.py`;
+//! - the socket: `tests/serve/sockets.py`;
+//! - `--trace` and `--trace-full`: `tests/serve/traces.py`.
 //!
 //! The wording of `clap`'s texts is neither proved nor tested.
 #![tactic(auto)]

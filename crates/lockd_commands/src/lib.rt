@@ -8,10 +8,10 @@
 //! - a `locks_on` that tells `differs N` in part, or not at all;
 //! - a `drive_on` that sends nothing, connects elsewhere, waits before it sends, doesn't close, or says `no memory`
 //!   at an empty path;
-//! - a `drive_on` that prints replies which didn't come from the socket (`try_stored_replies` in `tools/try_sockets`);
-//! - one that says another reason why it isn't connected, or none (`tools/try_words`).
+//! - a `drive_on` that prints replies which didn't come from the socket (`try_stored_replies` in `tests/serve/sockets.py`);
+//! - one that says another reason why it isn't connected, or none (`tests/commands/words.py`).
 //!
-//! The test of `lockd_commands_tests`, and `try_commands`, `try_pieces`, `try_locks` and `try_sockets` of `tools` refuse
+//! The test of `lockd_commands_tests`, and the scripts of `tests/commands`, `tests/locks` and `tests/serve` refuse
 //! these.
 //!
 //! After `write failed` the output holds a beginning of what was to be printed. No contract says how long it is. If

@@ -16,10 +16,10 @@
 //! - a server that tells its observer something else than what it does, or nothing, or another reason.
 //!
 //! These tests refuse most of them:
-//! - sessions of each kind, over a socket: `tools/try_sockets`, `tools/try_ends`, `tools/try_served`;
-//! - traces, files that go or can't be written, and `when_full`: `tools/try_traces`;
-//! - `resume_on`, its file and old sockets: `tools/try_resumed`, `tools/try_resumed_files`;
-//! - what an observer is told: `tools/try_words`, `tools/try_commands`.
+//! - sessions of each kind, over a socket: `tests/serve/sockets.py`, `tests/serve/sessions.py`, `tests/serve/sessions.py`;
+//! - traces, files that go or can't be written, and `when_full`: `tests/serve/traces.py`;
+//! - `resume_on`, its file and old sockets: `tests/resume/kills.py`, `tests/resume/files.py`;
+//! - what an observer is told: `tests/commands/words.py`, `tests/commands/texts.py`.
 #![tactic(auto)]
 
 mod ending;

@@ -16,10 +16,10 @@
 //!   so that it doesn't wait.
 //!
 //! These tests refuse most of them:
-//! - the file at the path, before a server listens: `try_paths_that_cannot_be_bound` of `tools/try_sockets`;
-//! - the file at the path, once a client connects: `try_a_file_of_somebody_else` and `try_ends` of `tools/try_ends`;
-//! - files that go or can't be written: `tools/try_traces`; old sockets: `tools/try_resumed`;
-//! - when all is written again: `tools/try_words`, `tools/try_commands`.
+//! - the file at the path, before a server listens: `try_paths_that_cannot_be_bound` of `tests/serve/sockets.py`;
+//! - the file at the path, once a client connects: `try_a_file_of_somebody_else` and `try_ends` of `tests/serve/sessions.py`;
+//! - files that go or can't be written: `tests/serve/traces.py`; old sockets: `tests/resume/kills.py`;
+//! - when all is written again: `tests/commands/words.py`, `tests/commands/texts.py`.
 //!
 //! None sees a `file_at` that gives another number for the device, since all their files lie on one. None sees a
 //! `Spinning` that reads on after a failed read.

@@ -1,0 +1,63 @@
+# Completion of `lockd` and of `lockd_mount` for bash: `. dist/lockd.bash`, or put it into
+# /etc/bash_completion.d. tests/commands/man.sh compares its words with what `lockd --help` says.
+_lockd() {
+    local word=${COMP_WORDS[COMP_CWORD]} before=${COMP_WORDS[COMP_CWORD - 1]} command=${COMP_WORDS[1]}
+    local words= rules='--fair --runs --parked --files --open --verbose'
+    if [ "$COMP_CWORD" -eq 1 ]; then
+        words="script check locks bytes serve drive help $rules --help --version"
+    elif [ "$before" = --workers ]; then
+        words=$(seq 16)
+    elif [ "$before" = --runs ]; then
+        words='1 4096 65536'
+    elif [ "$before" = --parked ]; then
+        words='1 256 1024'
+    elif [ "$before" = --files ]; then
+        words='1 256 65536'
+    elif [ "$before" = --open ]; then
+        words='1 1024 65536'
+    elif [ "$before" = --trace-full ]; then
+        words='go-on refuse wait end'
+    elif [ "$before" = --trace ]; then
+        words='none'
+    elif [ "$before" = --resume ]; then
+        words=
+    else
+        case $command in
+            help) words='script check locks bytes serve drive' ;;
+            serve) words="--workers --trace --resume --trace-full $rules --help" ;;
+            check) words="--quiet --cut $rules --help" ;;
+            locks) words="--at --file --json $rules --help" ;;
+            script | bytes) words="$rules --help" ;;
+            drive) words='--verbose --help' ;;
+            # Without a command it is script.
+            -*) words=$rules ;;
+        esac
+    fi
+    mapfile -t COMPREPLY < <(compgen -W "$words" -- "$word")
+    # Where no word fits, bash goes on with names of files, such as the socket's.
+}
+complete -o default -F _lockd lockd
+
+_lockd_mount() {
+    local word=${COMP_WORDS[COMP_CWORD]} before=${COMP_WORDS[COMP_CWORD - 1]}
+    local words='--workers --trace --resume --trace-full --times --fair --runs --parked --files --open --no-check --allow-other --mode --uid --gid --discard-writes --nonempty --grace --count --help --version'
+    case $before in
+        --workers) mapfile -t COMPREPLY < <(compgen -W "$(seq 16)" -- "$word") ;;
+        --runs) mapfile -t COMPREPLY < <(compgen -W '1 4096 65536' -- "$word") ;;
+        --parked) mapfile -t COMPREPLY < <(compgen -W '1 256 1024' -- "$word") ;;
+        --files) mapfile -t COMPREPLY < <(compgen -W '1 256 65536' -- "$word") ;;
+        --open) mapfile -t COMPREPLY < <(compgen -W '1 1024 65536' -- "$word") ;;
+        --trace) mapfile -t COMPREPLY < <(compgen -W 'none' -f -- "$word") ;;
+        --trace-full) mapfile -t COMPREPLY < <(compgen -W 'go-on wait end' -- "$word") ;;
+        --resume | --times) mapfile -t COMPREPLY < <(compgen -f -- "$word") ;;
+        --mode) mapfile -t COMPREPLY < <(compgen -W '0755 1777' -- "$word") ;;
+        --uid | --gid | --grace) COMPREPLY=() ;;
+        *)
+            case $word in
+                -*) mapfile -t COMPREPLY < <(compgen -W "$words" -- "$word") ;;
+                *) mapfile -t COMPREPLY < <(compgen -d -- "$word") ;;
+            esac
+            ;;
+    esac
+}
+complete -F _lockd_mount lockd_mount

@@ -1,0 +1,39 @@
+"""Makes the library of `calls.c`, by which a program's calls of some kinds are counted, move few bytes, fail and are noted."""
+import itertools
+import os
+import shutil
+import subprocess
+import sys
+import tempfile
+
+from tests import tries
+
+WORK = tempfile.TemporaryDirectory(prefix="try-calls-")
+LIBRARY, NUMBERS = f"{WORK.name}/calls.so", itertools.count()
+ANY = 1 << 32
+
+
+def environment(notes="", **kinds):
+    """That of a program whose calls of each of these kinds move so many bytes at most, or any number if that is 0. Behind that may stand the number of
+    the first call that fails, that of the last one, and their error, or 0 if they move nothing. They are noted in this file."""
+    return {**os.environ, "LD_PRELOAD": LIBRARY, "NOTES": notes, **{kind: " ".join(map(str, it)) for kind, it in kinds.items()}}
+
+
+def new_notes():
+    return f"{WORK.name}/notes.{next(NUMBERS)}"
+
+
+def noted(notes):
+    """A line for each call: its kind, and how many bytes it moved, or minus its error."""
+    with open(notes, encoding="ascii") as file:
+        return file.read().splitlines()
+
+
+def main(script, names):
+    """As `tries.main`, once the library is made. The status is 77 if there is no C compiler."""
+    compiler = shutil.which("cc")
+    if not compiler:
+        print(f"{script}: not tried: there is no C compiler", file=sys.stderr)
+        return tries.NOT_TRIED
+    subprocess.run([compiler, "-shared", "-fPIC", "-O1", "-fno-builtin", "-o", LIBRARY, f"{tries.TOP}/tests/shims/calls.c"], check=True)
+    return tries.main(script, names)

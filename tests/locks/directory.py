@@ -1,0 +1,252 @@
+"""Tries names, nodes and open files of the built `lockd` at several limits, beside a plain directory, by random orders.
+
+Half of the names collide: their hashes share one chain, whatever the limits. `tries.py` says how it ends.
+"""
+import collections
+import itertools
+import random
+import sys
+
+from tests import tries
+from tests.tries import run
+
+ENOENT, EBADF, EEXIST, ENOTDIR, EISDIR, EINVAL, ENFILE, ENOSPC = 2, 9, 17, 20, 21, 22, 23, 28
+ROOT, ORDERS = 1, 24_000
+
+
+class Refused(Exception):
+    """An order gets this error."""
+
+
+def refuse(if_so, error):
+    if if_so:
+        raise Refused(error)
+
+
+class Plain:
+    """A directory by dictionaries. A node is a list of its lookups, name, mode, user and group."""
+
+    def __init__(self, most_nodes, most_files):
+        self.most_nodes, self.most_files = most_nodes, most_files
+        self.nodes, self.names, self.files = {}, {}, {}
+        self.opens = collections.Counter()
+        self.next_node, self.next_fh = 2, 1
+
+    def attributes(self, number):
+        if number == ROOT:
+            return "1 16877 2 0 0"
+        _, name, mode, uid, gid = self.nodes[number]
+        return f"{number} {mode} {int(name is not None)} {uid} {gid}"
+
+    def is_known(self, number):
+        return number == ROOT or number in self.nodes
+
+    def sweep(self, number):
+        """Takes the node away, if neither a name nor a lookup nor an open file keeps it."""
+        lookups, name, *_ = self.nodes.get(number, [1, None])
+        if not lookups and name is None and not self.opens[number]:
+            del self.nodes[number]
+
+    def is_in(self, directory):
+        refuse(not self.is_known(directory), ENOENT)
+        refuse(directory != ROOT, ENOTDIR)
+
+    def found(self, directory, name):
+        self.is_in(directory)
+        refuse(name not in self.names, ENOENT)
+        return self.names[name]
+
+    def opened(self, node):
+        fh, self.next_fh = self.next_fh, self.next_fh + 1
+        self.files[fh] = node
+        self.opens[node] += 1
+        return fh
+
+    def lookup(self, node, _, name):
+        number = self.found(node, name)
+        self.nodes[number][0] += 1
+        return f"entry {self.attributes(number)}"
+
+    def create(self, node, user, excl, mode, name):
+        self.is_in(node)
+        refuse(name in (b"", b".", b"..") or b"/" in name, EINVAL)
+        refuse(name in self.names and excl, EEXIST)
+        refuse(name not in self.names and len(self.nodes) == self.most_nodes, ENOSPC)
+        refuse(len(self.files) == self.most_files, ENFILE)
+        if name not in self.names:
+            self.names[name], self.next_node = self.next_node, self.next_node + 1
+            self.nodes[self.names[name]] = [0, name, 0o100000 | mode, *user]
+        number = self.names[name]
+        self.nodes[number][0] += 1
+        return f"made {self.attributes(number)} {self.opened(number)}"
+
+    def open(self, node, _):
+        refuse(not self.is_known(node), ENOENT)
+        refuse(node == ROOT, EISDIR)
+        refuse(len(self.files) == self.most_files, ENFILE)
+        return f"open {self.opened(node)}"
+
+    def getattr(self, node, _):
+        refuse(not self.is_known(node), ENOENT)
+        return f"attr {self.attributes(node)}"
+
+    def unlink(self, node, _, name):
+        number = self.found(node, name)
+        del self.names[name]
+        self.nodes[number][1] = None
+        self.sweep(number)
+        return "ok"
+
+    def forget(self, node, _, count):
+        if node in self.nodes:
+            self.nodes[node][0] = max(0, self.nodes[node][0] - count)
+            self.sweep(node)
+
+    def flush(self, node, _, fh, owner):
+        del owner
+        refuse(self.files.get(fh) != node, EBADF)
+        return "ok"
+
+    def release(self, node, _, fh, drop, owner):
+        del drop, owner
+        refuse(self.files.get(fh) != node, EBADF)
+        del self.files[fh]
+        self.opens[node] -= 1
+        self.sweep(node)
+        return "ok"
+
+
+def spelled(word):
+    """A word of an order as a trace has it: a name in hex."""
+    return word.hex() or "-" if isinstance(word, bytes) else str(word)
+
+
+def traced(plain, unique, node, user, op, *words):
+    """An order and what the plain directory replies, as lines."""
+    asked = " ".join(map(spelled, ["ask 0", unique, node, *user, 0, op, *words]))
+    try:
+        reply = getattr(plain, op)(node, user, *words)
+    except Refused as error:
+        reply = f"err {error}"
+    return asked + "\n", f"tell {unique} {reply}\n" if reply else ""
+
+
+def hash_of(name):
+    """The hash by which a name is found: FNV-1a of 32 bits."""
+    it = 0x811C9DC5
+    for byte in name:
+        it = (it ^ byte) * 0x01000193 % 2**32
+    return it
+
+
+def colliding(count):
+    """So many names of one chain, however many chains there are: words that lead the hash back to where it began, one after another."""
+    words = map(bytes, itertools.product(b"abcdefghijklmnopqrstuvwxyz", repeat=4))
+    back = (it for it in words if (hash_of(it) ^ hash_of(b"")) % 2**16 == 0)
+    pair = [*itertools.islice(back, 2)]
+    return [b"".join(it) for it in itertools.islice(itertools.product(pair, repeat=14), count)]
+
+
+def of_names(numbers, plain, names):
+    """An order of a name, mostly in the root."""
+    node = ROOT if numbers.random() < 0.95 else numbers.choice([*plain.nodes, plain.next_node])
+    name = numbers.choice(names)
+    op = numbers.choice(["create"] * 8 + ["lookup", "unlink"])
+    return (node, op, numbers.randrange(2), numbers.randrange(0o1000), name) if op == "create" else (node, op, name)
+
+
+def of_nodes(numbers, plain, _):
+    """An order of a node, mostly of one that is there."""
+    node = numbers.choice([*plain.nodes, plain.next_node, ROOT])
+    op = numbers.choice(["getattr", "open", "open", "forget", "forget"])
+    return (node, op, numbers.randrange(4)) if op == "forget" else (node, op)
+
+
+def of_files(numbers, plain, _):
+    """An order of an open file, mostly of one that is open, and of its node."""
+    fh = numbers.choice([*plain.files, plain.next_fh])
+    node = plain.files.get(fh, ROOT) if numbers.random() < 0.9 else numbers.choice([*plain.nodes, ROOT])
+    op = numbers.choice(["flush", "release", "release"])
+    return (node, op, fh, *([0] if op == "release" else []), 7)
+
+
+def random_lines(numbers, most_nodes, most_files, names):
+    """The lines of random orders, which fill the directory first and empty it at last."""
+    plain = Plain(most_nodes, most_files)
+    for unique in range(1, ORDERS + 1):
+        kinds = [of_names] if unique < ORDERS / 3 else [of_names, of_nodes, of_files] if unique < ORDERS * 3 / 4 else [of_nodes, of_files, of_files]
+        node, op, *words = numbers.choice(kinds)(numbers, plain, names)
+        yield from traced(plain, unique, node, (numbers.randrange(3), numbers.randrange(3)), op, *words)
+
+
+def are_given(lines, *limits):
+    """`script` gives these lines from the orders in them, and the trace of them is legal."""
+    ran = run("script", *limits, text="".join(it for it in lines if it.startswith("ask ")).encode())
+    assert (ran.stderr, ran.returncode) == (b"", 0), ran.stderr
+    for at, (said, wanted) in enumerate(itertools.zip_longest(ran.stdout.decode().splitlines(True), filter(None, lines)), 1):
+        assert said == wanted, (at, said, wanted)
+    assert run("check", *limits, text=ran.stdout).stdout == b"legal\n"
+
+
+def answers(most_nodes, most_files):
+    """Says how many orders were refused for each limit. The trace is legal under the limits that it was made by, and under no others."""
+    names = [b"", b".", b"..", b"a/b", *colliding(2 * most_nodes), *(b"%d" % it for it in range(2 * most_nodes))]
+    lines = [*random_lines(random.Random(most_nodes), most_nodes, most_files, names)]
+    are_given(lines, "--files", str(most_nodes), "--open", str(most_files))
+    full = [sum(it.endswith(f" err {error}\n") for it in lines) for error in (ENOSPC, ENFILE)]
+    assert all(full) and run("check", text="".join(lines).encode()).stdout.startswith(b"differs "), full
+    return f"{full[0]} orders found no room for a file, and {full[1]} for an open file"
+
+
+def near(numbers, following):
+    """The number that is given next, or one of the nine before it."""
+    return max(0, following - numbers.randrange(10))
+
+
+def of_late_numbers(numbers, plain):
+    """An order of numbers that were given late, whether they are still there or not, through its own node mostly."""
+    node, fh, often = near(numbers, plain.next_node), near(numbers, plain.next_fh), numbers.randrange(8)
+    op = numbers.choice([["lookup", "lookup", "unlink", "unlink", "create", "create", "create"], ["getattr", "open", "open", "forget", "forget", "forget"],
+                         ["flush", "release", "release"]][numbers.randrange(3)])
+    if op in ("lookup", "unlink", "create"):
+        name = numbers.choice([b"a", b"b", b"", b".."])
+        words = [int(numbers.randrange(3) == 0), numbers.randrange(0o1000)] if op == "create" else []
+        return ROOT if often else node, op, *words, name
+    if op in ("flush", "release"):
+        node = plain.files.get(fh, node) if often else node
+        return node, op, fh, *([numbers.randrange(2)] if op == "release" else []), numbers.randrange(2)
+    return node, op, *([numbers.randrange(4)] if op == "forget" else [])
+
+
+def try_numbers_that_are_gone():
+    """At last each number that was given, and the next one, is asked for as a node, and as an open file on each node."""
+    nodes, files = 0, 0
+    for seed in range(60):
+        numbers, plain, lines = random.Random(seed), Plain(256, 1_024), []
+        for _ in range(500):
+            node, op, *words = of_late_numbers(numbers, plain)
+            lines += traced(plain, numbers.randrange(1_000), node, (numbers.randrange(3), numbers.randrange(3)), op, *words)
+        for node in range(plain.next_node + 1):
+            lines += traced(plain, 0, node, (5, 6), "getattr")
+            for fh in range(plain.next_fh + 1):
+                lines += traced(plain, 0, node, (5, 6), "flush", fh, 0)
+        are_given(lines)
+        nodes, files = nodes + plain.next_node - 2 - len(plain.nodes), files + plain.next_fh - 1 - len(plain.files)
+    assert nodes > 200 and files > 1_500, (nodes, files)
+    return f"{nodes} nodes were gone, and {files} open files"
+
+
+def try_three_files():
+    return answers(3, 5)
+
+
+def try_300_files():
+    return answers(300, 700)
+
+
+def try_5000_files():
+    return answers(5_000, 5_300)
+
+
+if __name__ == "__main__":
+    sys.exit(tries.main("locks/directory", globals()))

@@ -1,0 +1,436 @@
+"""Tries `lockd locks` of the built program: lists written by hand, random traces beside a plain model, and the growing trace of a server under load.
+
+The model follows a trace by its replies alone. `tries.py` says how it ends.
+"""
+import json
+import random
+import subprocess
+import sys
+import threading
+import time
+
+from tests import tries
+from tests.tries import fails_to_read, fills_up, run
+
+LAST = 2**63 - 1
+READ, WRITE, UNLOCK = 0, 1, 2
+HEADINGS = "TYPE", "MODE", "START", "END", "PID", "OWNER", "UNIQUE", "BLOCKER", "FILE"
+RIGHT = {"START", "END", "PID", "OWNER", "UNIQUE"}
+
+
+class Wish:
+    """A lock that is held or wanted: bytes of an owner on a node, both ends included."""
+
+    def __init__(self, node, flock, owner, start, end, kind, pid, unique=None, fh=None):
+        self.node, self.flock, self.owner, self.pid = node, flock, owner, pid
+        self.start, self.end, self.kind, self.unique, self.fh = start, end, kind, unique, fh
+
+    def key(self):
+        return self.node, self.flock, self.owner
+
+    def part(self, start, end):
+        return Wish(*self.key(), start, end, self.kind, self.pid)
+
+    def excludes(self, other):
+        """Whether the two are of two owners, on one file and of one class, share a byte, and one of them is for writing."""
+        return (self.key()[:2] == other.key()[:2] and self.owner != other.owner and self.start <= other.end and other.start <= self.end
+                and WRITE in (self.kind, other.kind))
+
+
+class Plain:
+    """What is there after lines: the runs of each owner, requests that wait, the name that each file was made under, unlinked files, and open files."""
+
+    def __init__(self, fair):
+        self.fair, self.runs, self.parked, self.names, self.unlinked, self.files = fair, {}, [], {}, set(), {}
+        self.wish, self.asked = None, None
+
+    # ---- one line
+
+    def hear(self, line):
+        words = line.split()
+        if words[0] == "ask":
+            self.ask(*words[2:4], *words[7:])
+        else:
+            self.tell(*words[1:])
+
+    def ask(self, unique, node, op, *words):
+        self.asked, self.wish = (unique, int(node), op, words), None
+        if op in ("setlk", "setlkw"):
+            fh, owner, start, end, kind, pid, flags = map(int, words)
+            if flags & 1:
+                start, end = 0, LAST
+            self.wish = Wish(int(node), flags & 1, owner, start, end, kind, pid, int(unique), fh)
+        if op == "setlkw":
+            # It waits, unless a reply of its own comes.
+            self.parked.append(self.wish)
+
+    def tell(self, unique, result, *words):
+        own, node, op, asked = self.asked
+        waits = next((it for it in self.parked if it.unique == int(unique)), None)
+        if waits:
+            self.parked.remove(waits)
+            if result == "ok":
+                self.set(waits)
+        elif unique == own and op == "setlk" and result == "ok":
+            self.set(self.wish)
+        elif unique == own:
+            self.done(node, op, asked, result, words)
+
+    def done(self, node, op, asked, result, words):
+        if result == "made":
+            self.names[int(words[0])] = bytes.fromhex(asked[2])
+            self.files[int(words[5])] = int(words[0])
+        elif result == "open":
+            self.files[int(words[0])] = node
+        elif result == "ok" and op == "unlink":
+            self.unlinked |= {it for it, name in self.names.items() if name.hex() == asked[0]}
+        elif result == "ok" and op == "flush":
+            self.drop(lambda it: it.key() == (node, 0, int(asked[1])))
+        elif result == "ok" and op == "release":
+            del self.files[int(asked[0])]
+            self.drop(lambda it: asked[1] == "1" and it.key() == (node, 1, int(asked[2])) or it.node == node and node not in self.files.values())
+
+    # ---- locks
+
+    def drop(self, test):
+        self.runs = {key: left for key, runs in self.runs.items() if (left := [it for it in runs if not test(it)])}
+
+    def set(self, wish):
+        """The bytes of the wish are cut out of the owner's runs, and are a run themselves, with those of the same kind and pid that touch it."""
+        runs, whole = [], wish.part(wish.start, wish.end)
+        for it in self.runs.get(wish.key(), []):
+            if wish.kind != UNLOCK and (it.kind, it.pid) == (wish.kind, wish.pid) and it.start <= wish.end + 1 and wish.start <= it.end + 1:
+                whole = whole.part(min(whole.start, it.start), max(whole.end, it.end))
+                continue
+            if it.start < wish.start:
+                runs.append(it.part(it.start, min(it.end, wish.start - 1)))
+            if wish.end < it.end:
+                runs.append(it.part(max(it.start, wish.end + 1), it.end))
+        self.runs[wish.key()] = sorted(runs + [whole] * (wish.kind != UNLOCK), key=lambda it: it.start)
+
+    # ---- the list
+
+    def name_of(self, node):
+        """The name that a file has, or None if it was unlinked."""
+        return None if node in self.unlinked else self.names[node]
+
+    def blockers(self, place):
+        """Those who hold what excludes a request, then under fair rules those who asked before it for what excludes it, each once, by owner."""
+        wish, found = self.parked[place], {}
+        for it in sorted((it for runs in self.runs.values() for it in runs), key=lambda it: it.start):
+            if it.excludes(wish):
+                found.setdefault(it.owner, it.pid)
+        for it in self.parked[:place] if self.fair and not wish.flock else []:
+            if it.excludes(wish):
+                found.setdefault(it.owner, it.pid)
+        return sorted(found.items())
+
+    def rows(self):
+        held = sorted((it for runs in self.runs.values() for it in runs), key=lambda it: (it.node, it.flock, it.start, it.owner))
+        rows = [(it, []) for it in held] + [(it, self.blockers(place)) for place, it in enumerate(self.parked)]
+        return sorted(rows, key=lambda row: row[0].node)
+
+
+def cells(plain, wish, blockers):
+    shown = "".join(chr(it) if 33 <= it <= 126 and it != 92 else f"\\x{it:02x}" for it in plain.names[wish.node])
+    shown += " (deleted)" * (plain.name_of(wish.node) is None)
+    return ["FLOCK" if wish.flock else "POSIX", ("READ", "WRITE")[wish.kind] + "*" * (wish.unique is not None), str(wish.start),
+            "EOF" if wish.end == LAST else str(wish.end), str(wish.pid), str(wish.owner), "-" if wish.unique is None else str(wish.unique),
+            ",".join(str(pid) for _, pid in blockers) or "-", shown]
+
+
+def table(plain, rows):
+    lines = [HEADINGS, *(cells(plain, *row) for row in rows)]
+    widths = [max(map(len, column)) for column in zip(*lines)]
+    aligned = ([it.rjust(width) if head in RIGHT else it.ljust(width) for head, it, width in zip(HEADINGS, line, widths)][:-1] + [line[-1]]
+               for line in lines)
+    return "".join(" ".join(line) + "\n" for line in aligned)
+
+
+def objects(plain, rows):
+    return [{"type": "FLOCK" if it.flock else "POSIX", "mode": ("READ", "WRITE")[it.kind], "waits": it.unique is not None, "start": it.start, "end": it.end,
+             "pid": it.pid, "owner": it.owner, "unique": it.unique, "blockers": [{"owner": owner, "pid": pid} for owner, pid in blockers], "node": it.node,
+             "name": name.hex() if (name := plain.name_of(it.node)) is not None else None} for it, blockers in rows]
+
+
+def line_of(found):
+    return json.dumps(found, separators=(",", ":")) + "\n"
+
+
+def after(lines, at, fair):
+    """What is there after the first lines of a trace, once the replies are told too that they lack."""
+    plain = Plain(fair)
+    for number, line in enumerate(lines):
+        if number >= at and line.startswith("ask "):
+            break
+        plain.hear(line)
+    return plain
+
+
+def lists(trace, *words):
+    ran = run("locks", *words, text=trace)
+    assert (ran.stderr, ran.returncode) == (b"", 0), (words, ran)
+    return ran.stdout.decode()
+
+
+def traced(script, *rules):
+    ran = run("script", *rules, text=script.encode())
+    assert (ran.stderr, ran.returncode) == (b"", 0), ran
+    return ran.stdout.decode()
+
+
+# ---- by hand ----
+
+WORKED = """\
+ask 0 1 1 0 0 0 create 0 420 64622e6c6f636b
+ask 0 2 1 0 0 0 create 0 420 6120ff
+ask 0 3 2 0 0 0 setlk 1 7 0 9 0 71 0
+ask 0 4 2 0 0 0 setlk 1 8 5 99 0 81 0
+ask 0 5 2 0 0 0 setlk 1 9 0 9223372036854775807 0 91 1
+ask 0 6 3 0 0 0 setlk 2 7 100 9223372036854775807 1 72 0
+ask 0 7 2 0 0 0 setlkw 1 9 8 8 1 91 0
+ask 0 8 2 0 0 0 setlkw 1 10 0 0 0 101 0
+ask 0 9 2 0 0 0 setlkw 1 10 0 8 1 102 0
+ask 0 10 2 0 0 0 setlkw 1 11 0 3 0 111 0
+"""
+
+
+def try_a_list_by_hand():
+    assert lists(traced(WORKED).encode()) == """\
+TYPE  MODE   START END PID OWNER UNIQUE BLOCKER   FILE
+POSIX READ       0   9  71     7      - -         db.lock
+POSIX READ       0   0 101    10      - -         db.lock
+POSIX READ       0   3 111    11      - -         db.lock
+POSIX READ       5  99  81     8      - -         db.lock
+FLOCK READ       0 EOF  91     9      - -         db.lock
+POSIX WRITE*     8   8  91     9      7 71,81     db.lock
+POSIX WRITE*     0   8 102    10      9 71,81,111 db.lock
+POSIX WRITE    100 EOF  72     7      - -         a\\x20\\xff
+"""
+
+
+# The scripts of examples/, with the rows after each order: `w 0-9 7` is a write lock that owner 7 holds, `r* 0-4 10 <11` a read lock that owner 10 waits for,
+# because of pid 11.
+EXAMPLES = {
+    ("read_lock_conflicts",): [
+        "",
+        "w 0-9 7",
+        "w 0-9 7",
+    ],
+    ("a_file_lives_while_it_is_open",): [""] * 10,
+    ("a_lock_is_waited_for",): [
+        "",
+        "w 0-9 7",
+        "w 0-9 7, w* 0-0 8 <11",
+        "w 0-9 7, w* 0-0 8 <11, r* 9-9 9 <11",
+        "w 0-9 7, w* 0-0 8 <11, r* 9-9 9 <11, r* 0-4 10 <11",
+        "w 0-9 7, w* 0-0 8 <11, r* 0-4 10 <11",
+        "w 0-0 8, r* 0-4 10 <12",
+        "r 0-4 10",
+    ],
+    ("a_writer_among_readers",): [
+        "",
+        "r 0-0 11",
+        "r 0-0 11, r 0-0 12",
+        "r 0-0 11, r 0-0 12, w* 0-0 7 <21 <22",
+        "r 0-0 11, r 0-0 12, r 0-0 13, w* 0-0 7 <21 <22 <23",
+        "r 0-0 12, r 0-0 13, w* 0-0 7 <22 <23",
+        "r 0-0 12, r 0-0 13, r 0-0 14, w* 0-0 7 <22 <23 <24",
+        "r 0-0 13, r 0-0 14, w* 0-0 7 <23 <24",
+        "r 0-0 13, r 0-0 14, w* 0-0 7 <23 <24",
+        "r 0-0 13, r 0-0 14, r 0-0 15, w* 0-0 7 <23 <24 <25",
+        "r 0-0 14, r 0-0 15, w* 0-0 7 <24 <25",
+        "r 0-0 14, r 0-0 15, r 0-0 16, w* 0-0 7 <24 <25 <26",
+        "r 0-0 15, r 0-0 16, w* 0-0 7 <25 <26",
+    ],
+    ("a_writer_among_readers", "--fair"): [
+        "",
+        "r 0-0 11",
+        "r 0-0 11, r 0-0 12",
+        "r 0-0 11, r 0-0 12, w* 0-0 7 <21 <22",
+        "r 0-0 11, r 0-0 12, w* 0-0 7 <21 <22, r* 0-0 13 <17",
+        "r 0-0 12, w* 0-0 7 <22, r* 0-0 13 <17",
+        "r 0-0 12, w* 0-0 7 <22, r* 0-0 13 <17, r* 0-0 14 <17",
+        "w 0-0 7, r* 0-0 13 <17, r* 0-0 14 <17",
+        "r 0-0 13, r 0-0 14",
+        "r 0-0 13, r 0-0 14, r 0-0 15",
+        "r 0-0 14, r 0-0 15",
+        "r 0-0 14, r 0-0 15, r 0-0 16",
+        "r 0-0 15, r 0-0 16",
+    ],
+}
+
+
+def short(row):
+    mode = {"READ": "r", "WRITE": "w"}[row["mode"]] + "*" * row["waits"]
+    return f"{mode} {row['start']}-{row['end']} {row['owner']}" + "".join(f" <{it['pid']}" for it in row["blockers"])
+
+
+def try_the_examples():
+    for (name, *rules), expected in EXAMPLES.items():
+        trace = traced(tries.text_of(f"examples/{name}.txt"), *rules)
+        orders = [number for number, line in enumerate(trace.splitlines(), 1) if line.startswith("ask ")]
+        assert len(orders) == len(expected), name
+        for order, rows in zip(orders, expected):
+            found = json.loads(lists(trace.encode(), "--json", "--at", str(order), *rules))
+            assert ", ".join(map(short, found)) == rows, (name, rules, order, found)
+
+
+def try_fair_lists_by_hand():
+    """An older request that excludes a younger one is in its way: owner 11 waits for owner 10, who waits for a writer."""
+    trace = traced(WORKED, "--fair")
+    found = json.loads(lists(trace.encode(), "--fair", "--json"))
+    assert [(it["unique"], [by["pid"] for by in it["blockers"]]) for it in found if it["waits"]] == [(7, [71, 81]), (9, [71, 81, 91]), (10, [102])], found
+
+
+def try_a_file_that_was_unlinked():
+    """It keeps the name that it had in the table. A new file of that name is another one, and the one that `--file` finds."""
+    script = "ask 0 1 1 0 0 0 create 0 420 61\nask 0 2 2 0 0 0 setlk 1 7 0 0 1 11 0\nask 0 3 1 0 0 0 unlink 61\n"
+    trace = traced(script).encode()
+    assert lists(trace).splitlines()[1] == "POSIX WRITE     0   0  11     7      - -       a (deleted)", lists(trace)
+    assert json.loads(lists(trace, "--json"))[0]["name"] is None
+    assert lists(trace, "--file", "a", "--json") == "[]\n"
+    trace = traced(script + "ask 0 4 1 0 0 0 create 0 420 61\nask 0 5 3 0 0 0 setlk 2 8 0 0 1 12 0\n").encode()
+    assert [line.split()[4:] for line in lists(trace).splitlines()[1:]] == [["11", "7", "-", "-", "a", "(deleted)"], ["12", "8", "-", "-", "a"]], lists(trace)
+    assert [(it["owner"], it["name"]) for it in json.loads(lists(trace, "--json"))] == [(7, None), (8, "61")]
+    assert [it["owner"] for it in json.loads(lists(trace, "--file", "a", "--json"))] == [8]
+
+
+def try_nothing():
+    assert lists(b"") == "TYPE MODE START END PID OWNER UNIQUE BLOCKER FILE\n" and lists(b"", "--json") == "[]\n"
+
+
+def try_256_that_wait():
+    asks = "".join(f"ask 0 {it} 2 0 0 0 setlkw 1 {it} 0 0 1 {it} 0\n" for it in range(1_000, 1_256))
+    script = "ask 0 1 1 0 0 0 create 0 420 61\nask 0 2 2 0 0 0 setlk 1 7 0 0 1 11 0\n" + asks
+    for rules, last in ([], ["7"]), (["--fair"], ["7", *map(str, range(1_000, 1_255))]):
+        found = json.loads(lists(traced(script, *rules).encode(), *rules, "--json"))
+        assert [it["unique"] for it in found] == [None, *range(1_000, 1_256)]
+        assert [str(it["owner"]) for it in found[-1]["blockers"]] == last
+
+
+def try_traces_that_are_not_legal():
+    trace = traced(WORKED)
+    wrong = trace.replace("tell 4 ok", "tell 4 err 11")
+    ran = run("locks", text=wrong.encode())
+    assert (ran.stdout, ran.stderr, ran.returncode) == (b"", b"differs 8\n", 1), ran
+    ran = run("locks", text=trace.replace("ask 0 9", "ask 0  9").encode())
+    assert (ran.stdout, ran.returncode) == (b"", 2) and ran.stderr.startswith(b"bad line "), ran
+    assert lists(wrong.encode(), "--at", "7") == lists(trace.encode(), "--at", "7")
+
+
+def try_faults():
+    """A write that fails is told, whether nothing or a beginning of the list went out, and so is a read. Nothing is printed before the read failed."""
+    trace = traced(WORKED).encode()
+    for words in ["locks"], ["locks", "--json"]:
+        whole = len(lists(trace, *words[1:]))
+        for left in 0, 1, whole - 1:
+            assert fills_up(*words, text=trace, left=left) == (b"write failed\n", 2), (words, left)
+        assert fills_up(*words, text=trace, left=whole) == (b"", 0), words
+        with open("/dev/full", "wb") as full:
+            ran = subprocess.run([tries.PROGRAM, *words], input=trace, stdout=full, stderr=subprocess.PIPE, timeout=tries.PATIENCE, check=False)
+        assert (ran.stderr, ran.returncode) == (b"write failed\n", 2), (words, ran)
+        assert fails_to_read(*words, text=trace) == (b"", b"read failed\n", 2), words
+
+
+def try_at_each_line():
+    for fair in False, True:
+        rules = ["--fair"] * fair
+        lines = traced(WORKED, *rules).splitlines(True)
+        for at in range(len(lines) + 2):
+            plain = after(lines, at, fair)
+            assert lists("".join(lines).encode(), *rules, "--at", str(at)) == table(plain, plain.rows()), (fair, at)
+            cut = "".join(lines)[:len("".join(lines[:at])) + 3]
+            assert lists(cut.encode(), *rules) == table(plain, plain.rows()), (fair, at)
+
+
+# ---- beside the model ----
+
+def random_script(numbers):
+    """Orders of three files and six owners, some of which open, close, unlink and interrupt."""
+    yield from (f"create 0 420 {name}" for name in ("61", "6265", "2063"))
+    for _ in range(numbers.randrange(60)):
+        fh, owner = numbers.randrange(1, 5), numbers.randrange(6)
+        start = numbers.choice([0, 1, 2, 5, 8, 9])
+        end = numbers.choice([start, start + 1, start + 4, LAST])
+        kind, flags = numbers.choice([READ, WRITE, WRITE, UNLOCK]), int(numbers.random() < 0.2)
+        yield numbers.choice([f"setlk {fh} {owner} {start} {end} {kind} {owner + 100 * numbers.randrange(2)} {flags}",
+                              f"setlkw {fh} {owner} {start} {end} {kind} {owner + 100} {flags}", f"flush {fh} {owner}", "open",
+                              f"release {fh} {numbers.randrange(2)} {owner}", "unlink 6265", f"interrupt {numbers.randrange(4, 60)}"]
+                             if numbers.random() < 0.3 else [f"setlkw {fh} {owner} {start} {end} {kind} {owner + 100} {flags}"])
+
+
+def random_trace(numbers, rules):
+    asks = []
+    for unique, op in enumerate(random_script(numbers), 1):
+        node = 1 if op.startswith(("create", "unlink")) else min(1 + int(op.split()[1]), 4) if op[:3] in ("set", "flu", "rel") else numbers.randrange(2, 5)
+        asks.append(f"ask 0 {unique} {node} 0 0 0 {op}\n")
+    return traced("".join(asks), *rules)
+
+
+def try_2000_random_traces():
+    held = waiting = 0
+    for seed in range(2_000):
+        numbers, fair = random.Random(seed), seed % 2 == 1
+        rules = ["--fair"] * fair
+        text = random_trace(numbers, rules)
+        lines = text.splitlines(True)
+        at = numbers.choice([len(lines), numbers.randrange(len(lines))])
+        plain = after(lines, at, fair)
+        rows = plain.rows()
+        waiting += len(plain.parked)
+        held += len(rows) - len(plain.parked)
+        words = [*rules, "--at", str(at)]
+        if seed % 4 == 0:
+            name = numbers.choice(["a", "be", " c"])
+            words += ["--file", name]
+            rows = [row for row in rows if plain.name_of(row[0].node) == name.encode()]
+        if seed % 3:
+            assert lists(text.encode(), *words, "--json") == line_of(objects(plain, rows)), (seed, at)
+        else:
+            assert lists(text.encode(), *words) == table(plain, rows), (seed, at)
+    assert held > 2_000 and waiting > 500, (held, waiting)
+    return f"{held} locks and {waiting} that wait"
+
+
+# ---- a server ----
+
+def try_a_growing_trace():
+    """Fifty lists of the file while a server writes it. A lock that was set before the load and stays is in each."""
+    for workers in 1, 4:
+        server = tries.Server("--trace", "{file}", workers=workers)
+        with server.connect() as client:
+            # One of several workers may take the lock before another has made its file.
+            for sent, size in (tries.INIT + tries.CREATE, 80 + 160), (tries.lock(32, 3, 7, 0, 1), 16):
+                client.sendall(sent)
+                tries.take(client, size)
+            # Before the load: several workers write their lines once they sleep, and may find no time to while orders come.
+            tries.wait_until(lambda: b"tell 3 ok\n" in server.traced())
+            over, more = threading.Event(), threading.Semaphore(0)
+            loads = threading.Thread(target=load, args=(client, over, more))
+            loads.start()
+            try:
+                for _ in range(50):
+                    # The longer the lists take, the longer the trace would grow, and the lists would take.
+                    more.release(8)
+                    found = json.loads(lists(server.traced(), "--json"))
+                    assert (7, 0) in [(it["owner"], it["start"]) for it in found], found
+            finally:
+                over.set()
+                more.release()
+                loads.join()
+        assert server.ended()[2] == 0
+
+
+def load(client, over, more):
+    """Locks and unlocks of owner 8, 64 at a time, some thousands a second, as many times as it is to."""
+    unique = 4
+    while more.acquire() and not over.is_set():
+        client.sendall(b"".join(tries.lock(32, it, 8, 9, 1 + it % 2) for it in range(unique, unique + 64)))
+        tries.take(client, 64 * 16)
+        unique += 64
+        time.sleep(0.01)
+
+
+if __name__ == "__main__":
+    sys.exit(tries.main("locks/listing", globals()))

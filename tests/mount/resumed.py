@@ -1,0 +1,576 @@
+"""A mount with --resume: its server is killed, and another one goes on with the trace. TRY_MOUNT_KILLS says how often it is killed at random moments
+(10), by TRY_MOUNT_SEED."""
+import ctypes, mmap, os, random, select, shutil, signal, struct, subprocess, sys, tempfile, threading, time
+from collections import Counter
+from report.times import read_times
+from report.trace import read_trace
+from tests.mount.ends import held_and_waited_for, mounts_again
+from tests.mount.kit import *
+
+KILLS = int(os.environ.get("TRY_MOUNT_KILLS", 10))
+LIBC = ctypes.CDLL(None)
+SEED = int(os.environ.get("TRY_MOUNT_SEED", 0)) or random.randrange(1 << 30)
+
+
+def built(name):
+    """A program that is built beside this file."""
+    subprocess.run(["cc", "-O2", "-Wall", "-Wextra", "-o", f"{WORK}/{name}", f"{TOP}/tests/mount/{name}.c"], check=True, timeout=5 * PATIENCE)
+    return f"{WORK}/{name}"
+
+
+def starting_often():
+    """A carrier that starts its server again as often as it ends, with the sanitizers if there are any."""
+    checks = ["-g", "-fsanitize=address,undefined", "-fno-sanitize-recover=undefined"] if os.environ.get("LOCKD_MOUNT_CHECKED") else []
+    subprocess.run([f"{TOP}/mount/build", f"{WORK}/lockd_mount_often", "-DMOST_RESTARTS=100000", *checks], check=True, timeout=5 * PATIENCE)
+    return f"{WORK}/lockd_mount_often"
+
+
+class Resumed(Mount):
+    """A mount with a new FILE, or with this one."""
+
+    def __init__(self, *words, file=None, **how):
+        self.file = file or tempfile.mkdtemp(dir=WORK) + "/file"
+        super().__init__("--resume", self.file, *words, **how)
+
+    def servers(self):
+        return [pid for pid, words in children_of(self.running.pid) if b"serve" in words]
+
+    def count(self):
+        """How many times it has gone on with another server."""
+        return self.output().count("the mount goes on")
+
+    def goes_on(self, count):
+        """Waits until it has done so this many times."""
+        until(lambda: self.count() >= count or self.running.poll() is not None)
+        assert self.running.poll() is None, self.output()
+
+    def cut(self, how=signal.SIGKILL):
+        """Kills the server, and waits until it has gone on with another one."""
+        before = self.count()
+        os.kill(self.server(), how)
+        self.goes_on(before + 1)
+
+    def lines(self):
+        with open(self.file, "rb") as it:
+            return it.read().split(b"\n")[:-1]
+
+    def has(self, end):
+        """Whether a line of FILE ends so."""
+        return any(line.endswith(end) for line in self.lines())
+
+
+class Gate:
+    """A program that is the server once `open` was called, and until then is to wait: `words` is the environment that names it."""
+
+    def __init__(self):
+        self.folder = tempfile.mkdtemp(dir=WORK)
+        self.program = f"{self.folder}/lockd"
+        with open(self.program, "w", encoding="ascii") as it:
+            it.write(f'#!/bin/sh\nwhile [ -e {self.folder}/shut ]; do sleep 0.01; done\nexec "$REAL_LOCKD" "$@"\n')
+        os.chmod(self.program, 0o700)
+        self.words = {"LOCKD": self.program, "REAL_LOCKD": os.environ["LOCKD"]}
+
+    def shut(self):
+        with open(f"{self.folder}/shut", "w", encoding="ascii"):
+            pass
+
+    def open(self):
+        os.unlink(f"{self.folder}/shut")
+
+
+# ---- Kills at random moments ----
+
+def kill_at_random(mount, chance, is_over):
+    """Kills a server now and then, most often while it serves: some before they listen, or read their file."""
+    killed = 0
+    while killed < KILLS and not is_over():
+        before = mount.count()
+        time.sleep(chance.choice((0.003, 0.03, 0.3)) * chance.random())
+        for pid in mount.servers():
+            # One that was killed before may just be gone.
+            killed += outcome(os.kill, pid, signal.SIGKILL) is None
+        if chance.random() < 0.8:
+            mount.goes_on(before + 1)
+    return killed
+
+
+def asked_once(lines):
+    """Each unique stands in one `ask`, but that of a batch of FORGETs, which stands in one for each node, one after another. How many orders, and batches.
+    The kernel itself may send an INTERRUPT twice: who is interrupted queues it, and so does the read of its request."""
+    asks = [line.split() for line in lines if line.startswith(b"ask ")]
+    count, last = Counter(it[2] for it in asks), {}
+    for at, it in enumerate(asks):
+        if count[it[2]] > 1 + (it[7] == b"interrupt"):
+            assert it[7] == b"forget" and last.get(it[2], at - 1) == at - 1, (it, count[it[2]])
+            last[it[2]] = at
+    forgets = Counter((it[2], it[3]) for it in asks if it[7] == b"forget")
+    same([it for it, times in forgets.items() if times > 1], [])
+    return len(asks), len(last)
+
+
+def has_room(folder, count):
+    """Whether so many files can be made, which are removed again."""
+    made = [outcome(os.open, f"{folder}/made{at}", os.O_RDWR | os.O_CREAT) for at in range(count)]
+    for at, fd in enumerate(made):
+        if isinstance(fd, int):
+            os.close(fd)
+            os.unlink(f"{folder}/made{at}")
+    return all(isinstance(fd, int) for fd in made)
+
+
+def held_at_the_end(mount, *rules):
+    with open(mount.file, "rb") as lines:
+        ran = subprocess.run([os.environ["LOCKD"], "locks", *rules], stdin=lines, capture_output=True, text=True, check=True, timeout=PATIENCE)
+    return ran.stdout.splitlines()[1:]
+
+
+def try_a_server_that_is_killed_at_random_moments():
+    """8 processes on 4 files notice nothing but a pause. Each unlock, close and FORGET was taken: there is room for as many files as before, and no lock."""
+    chance, program, rules = random.Random(SEED), built("sections"), ("--files", "64")
+    mount = Resumed(*rules, program=starting_often())
+    running = subprocess.Popen([program, mount.folder, "8", str(SEED)], stdin=subprocess.PIPE, stdout=subprocess.PIPE, stderr=subprocess.PIPE, text=True)
+    killed = kill_at_random(mount, chance, lambda: running.poll() is not None)
+    # A request was interrupted, one was refused, and orders came between the kills.
+    until(lambda: running.poll() is not None or (len(mount.lines()) > 20 * KILLS and mount.has(b" err 4") and mount.has(b" err 11")))
+    said, wrong = running.communicate(timeout=PATIENCE)
+    same((wrong, running.returncode), ("", 0))
+    until(lambda: has_room(mount.folder, 60))
+    ended = mount.end()
+    orders, batches = asked_once(mount.lines())
+    print(f"{killed} kills (seed {SEED}), {orders} orders, {batches} batches; sections, interrupted, refused: {said}", end="", flush=True)
+    same((ended, killed >= KILLS, held_at_the_end(mount, *rules)), ((0, "legal"), True, []))
+
+
+try_a_server_that_is_killed_at_random_moments.seconds = 10 * PATIENCE + 4 * KILLS
+
+
+# ---- Who waits ----
+
+def parked(mount, path, kind, count, grants):
+    """Processes that wait for the lock of a file, one after another. Each writes its number to the pipe when it gets it, and lets go."""
+    made = []
+    for at in range(count):
+        before = mount.lines()
+        pid = os.fork()
+        if not pid:
+            fd = os.open(path, os.O_RDWR)
+            said = outcome(fcntl.flock, fd, ALONE) if kind == "flock" else outcome(record, fd, WRITE, 0, 0, True)
+            os.write(grants, struct.pack("i", at if said is None else -1))
+            os._exit(0)
+        made.append(pid)
+        until(lambda: any(b" setlkw " in line for line in mount.lines()[len(before):]))
+    return made
+
+
+def try_a_hundred_parked_processes_and_one_kill():
+    """They are granted in their old order."""
+    mount, kinds = Resumed(), {"flock": (ALONE, NOT_HELD), "record": (WRITE, UNLOCK)}
+    holders, pipes, waiting = {}, {}, {}
+    for kind, (lock, _) in kinds.items():
+        (holders[kind],), pipes[kind] = children(f"{mount.folder}/{kind}", 1), os.pipe()
+        same(holders[kind].ask(kind, "a", lock), "ok")
+        waiting[kind] = parked(mount, f"{mount.folder}/{kind}", kind, 50, pipes[kind][1])
+    mount.cut()
+    same(select.select([it[0] for it in pipes.values()], [], [], 0.1)[0], [])
+    for kind, (_, unlock) in kinds.items():
+        same(holders[kind].ask(kind, "a", unlock), "ok")
+        for pid in waiting[kind]:
+            os.waitpid(pid, 0)
+        same([it[0] for it in struct.iter_unpack("i", os.read(pipes[kind][0], 4096))], [*range(50)])
+        holders[kind].kill()
+    same(mount.end(), (0, "legal"))
+
+
+def try_a_signal_reaches_a_waiter_after_a_kill():
+    mount = Resumed()
+    for kind, word, more in ("flock", ALONE, ()), ("record", WRITE, (0, 0, True)):
+        one, two, three = children(f"{mount.folder}/{kind}", 3)
+        same(one.ask(kind, "a", word), "ok")
+        for it in two, three:
+            it.begin(kind, "a", word, *more)
+            assert it.waits()
+        mount.cut()
+        assert two.waits() and three.waits()
+        os.kill(two.pid, signal.SIGUSR1)
+        same(two.answer(), "EINTR")
+        three.kill()
+        one.kill()
+        same(two.ask(kind, "a", word), "ok")
+        two.kill()
+    same(mount.end(), (0, "legal"))
+
+
+def try_calls_and_signals_while_there_is_no_server():
+    """They wait until there is one."""
+    gate = Gate()
+    mount = Resumed(**gate.words)
+    one, two = held_and_waited_for(mount)
+    (three,) = children(f"{mount.folder}/held", 1)
+    gate.shut()
+    os.kill(mount.server(), signal.SIGKILL)
+    until(lambda: "and is started again" in mount.output())
+    os.kill(two.pid, signal.SIGUSR1)
+    three.begin("flock", "a", ALONE)
+    one.begin("record", "a", WRITE)
+    assert three.waits() and two.waits() and one.waits()
+    gate.open()
+    same([two.answer(), one.answer()], ["EINTR", "ok"])
+    assert three.waits()
+    same([one.ask("flock", "a", NOT_HELD), three.answer()], ["ok", "ok"])
+    for it in one, two, three:
+        it.kill()
+    same(mount.end(), (0, "legal"))
+
+
+def unnamed(folder, name):
+    """A descriptor of a file that isn't open and has no name any more: it is forgotten when this is closed, and that waits for no reply."""
+    os.close(os.open(f"{folder}/{name}", os.O_RDWR | os.O_CREAT))
+    fd = os.open(f"{folder}/{name}", os.O_PATH)
+    os.unlink(f"{folder}/{name}")
+    return fd
+
+
+def mapped(folder, name, locks=False):
+    """The address at which an open file is mapped that has no descriptor any more: it is closed when this is unmapped, and that waits for no reply."""
+    fd = os.open(f"{folder}/{name}", os.O_RDWR | os.O_CREAT)
+    if locks:
+        ofd(fd, WRITE)
+    LIBC.mmap.restype = ctypes.c_void_p
+    address = LIBC.mmap(None, 4096, mmap.PROT_READ, mmap.MAP_PRIVATE, fd, 0)
+    os.close(fd)
+    os.unlink(f"{folder}/{name}")
+    return ctypes.c_void_p(address)
+
+
+def try_messages_that_the_server_had_not_read():
+    """Each is sent again: a request, a signal, a batch of FORGETs, a RELEASE, and one that the carrier sends a FLUSH for."""
+    mount = Resumed("--files", "9")
+    one, two = held_and_waited_for(mount)
+    (three,) = children(f"{mount.folder}/held", 1)
+    gone, closed, locked = [unnamed(mount.folder, f"gone{at}") for at in range(5)], mapped(mount.folder, "closed"), mapped(mount.folder, "locked", locks=True)
+    server = mount.server()
+    stop(server, mount.running.pid)
+    for it in gone:
+        os.close(it)
+    LIBC.munmap(closed, 4096)
+    os.kill(two.pid, signal.SIGUSR1)
+    three.begin("flock", "a", ALONE)
+    mount.running.send_signal(signal.SIGCONT)
+    assert three.waits() and two.waits()
+    os.kill(server, signal.SIGKILL)
+    same(two.answer(), "EINTR")
+    assert three.waits()
+    server = mount.server()
+    stop(server)
+    LIBC.munmap(locked, 4096)
+    one.begin("flock", "a", NOT_HELD)
+    assert one.waits()
+    os.kill(server, signal.SIGKILL)
+    same([one.answer(), three.answer()], ["ok", "ok"])
+    for it in one, two, three:
+        it.kill()
+    until(lambda: has_room(mount.folder, 8))
+    same((mount.end(), held_at_the_end(mount, "--files", "9")), ((0, "legal"), []))
+    assert asked_once(mount.lines())[1], "no batch"
+
+
+# A server that has no names. It notes each message, and dies twice: after a half of its reply to a LOOKUP of `sent`, and after a half of a LOOKUP of `read`.
+# One that REFUSES refuses all, from the second INIT on.
+FALTERS = """
+import os, signal, socket, struct, sys
+if sys.argv[1] != "serve":
+    sys.exit(print("legal"))
+open(sys.argv[sys.argv.index("--resume") + 1], "a").close()
+notes = open(os.environ["NOTES"], "a+")
+notes.seek(0)
+life = notes.read().count(" 26 ") + 1
+if os.path.exists("socket"):
+    os.unlink("socket")
+listening = socket.socket(socket.AF_UNIX)
+listening.bind("socket")
+listening.listen()
+connection = listening.accept()[0]
+while True:
+    head = connection.recv(40, socket.MSG_WAITALL)
+    if len(head) < 40:
+        break
+    length, opcode, unique = struct.unpack_from("<IIQ", head)
+    half = life == 2 and opcode == 1 and not unique >> 63
+    body = connection.recv(2 if half else length - 40, socket.MSG_WAITALL)
+    print(life, opcode, unique, file=notes, flush=True)
+    if half:
+        os.kill(os.getpid(), signal.SIGKILL)
+    error, reply = -2 if opcode == 1 else 0, b""
+    if life > 1 and "REFUSES" in os.environ:
+        error = -71
+    elif opcode == 26:
+        reply = struct.pack("<4I2HII36x", 7, 31, 0, 1026, 16, 12, 4096, 1)
+    elif opcode == 3:
+        reply = struct.pack("<16xQ52xIIII12x", 1, 0o40755, 2, 0, 0)
+    reply = struct.pack("<IiQ", 16 + len(reply), error, unique & ~(1 << 63)) + reply
+    if life == 1 and b"sent" in body:
+        connection.sendall(reply[:9])
+        os.kill(os.getpid(), signal.SIGKILL)
+    connection.sendall(reply)
+"""
+
+
+def faltering():
+    """The environment of such a server."""
+    folder = tempfile.mkdtemp(dir=WORK)
+    with open(f"{folder}/lockd", "w", encoding="ascii") as it:
+        it.write(f"#!{sys.executable}{FALTERS}")
+    os.chmod(f"{folder}/lockd", 0o700)
+    return {"LOCKD": f"{folder}/lockd", "NOTES": f"{folder}/notes"}
+
+
+def try_halves_of_messages_and_replies():
+    """They are dropped. To each server INIT goes first, and then what has no reply, marked, and whole."""
+    env = faltering()
+    mount, lives = Resumed(**env), {}
+    same([outcome(os.stat, f"{mount.folder}/{name}") for name in ("sent", "read")], ["ENOENT"] * 2)
+    same(mount.end(), (0, "legal"))
+    with open(env["NOTES"], encoding="ascii") as it:
+        for life, *message in (map(int, line.split()) for line in it):
+            lives.setdefault(life, []).append(tuple(message))
+    same(sorted(lives), [1, 2, 3])
+    for life in 1, 2:
+        same(lives[life + 1][:2], [lives[1][0], (1, lives[life][-1][1] | 1 << 63)])
+
+
+def try_a_server_that_refuses_init_after_the_first():
+    mount = Resumed(REFUSES="", **faltering())
+    same(outcome(os.stat, f"{mount.folder}/sent"), "ECONNABORTED")
+    same(mount.end(lambda: None), (3, "legal"))
+    mount.says("the server refused INIT: Protocol error")
+    assert not mount.is_mounted()
+
+
+# ---- What goes on with the mount ----
+
+def try_locks_times_and_counts_after_a_kill():
+    times = tempfile.mkdtemp(dir=WORK) + "/times"
+    mount = Resumed("--times", times, "--count", "--fair", "--files", "300")
+    mount.says(f"its trace is {mount.file}\n")
+    one, two = children(f"{mount.folder}/held", 2)
+    same(one.ask("record", "a", WRITE), "ok")
+    two.begin("record", "a", WRITE, 0, 0, True)
+    assert two.waits()
+    mount.cut()
+    until(lambda: "WRITE*" in listed(mount).stdout)
+    rows = [line.split() for line in listed(mount).stdout.splitlines()]
+    same([(row[0], row[1], row[-2], row[-1]) for row in rows[1:]], [("POSIX", "WRITE", "-", "held"), ("POSIX", "WRITE*", str(one.pid), "held")])
+    mount.running.send_signal(signal.SIGUSR1)
+    until(lambda: "lockd_mount: 1 files, 2 open; " in mount.output())
+    same([one.ask("record", "a", UNLOCK), two.answer()], ["ok", "ok"])
+    one.kill()
+    two.kill()
+    same(mount.end(), (0, "legal"))
+    mount.says("messages of the kernel, opcode and how many: 1:")
+    with open(times, "rb") as it:
+        asks, tells = read_times(it.read())
+    for order in read_trace(b"".join(it + b"\n" for it in mount.lines())).orders:
+        same(len(asks.found[order.unique]), 1)
+        for reply in order.replies:
+            same(len(tells.found[reply.unique]), 1)
+
+
+def try_an_upgrade():
+    """The program is replaced, and the server ended by SIGTERM."""
+    folder = tempfile.mkdtemp(dir=WORK)
+    program = f"{folder}/lockd"
+    os.symlink(os.environ["LOCKD"], program)
+    mount = Resumed(LOCKD=program)
+    one, two = held_and_waited_for(mount)
+    with open(f"{program}.new", "w", encoding="ascii") as it:
+        it.write(f'#!/bin/sh\necho "$1" >> {folder}/used\nexec {os.environ["LOCKD"]} "$@"\n')
+    os.chmod(f"{program}.new", 0o755)
+    os.replace(f"{program}.new", program)
+    mount.cut(signal.SIGTERM)
+    mount.says("the server was killed by SIGTERM, and is started again")
+    assert two.waits()
+    same([one.ask("flock", "a", NOT_HELD), two.answer()], ["ok", "ok"])
+    one.kill()
+    two.kill()
+    same(mount.end(), (0, "legal"))
+    with open(f"{folder}/used", encoding="ascii") as it:
+        same(it.read().split(), ["serve", "check"])
+
+
+# ---- Ends ----
+
+def lost(mount, one, two, status, *said):
+    """The mount ends, since no server comes, for this reason: one process loses its lock, and another one its wait."""
+    found, _ = mount.end(lambda: None)
+    mount.says(*said, "the server ended", "their locks are lost", f"{mount.folder} stays unusable")
+    same((found, two.answer()), (status, "ECONNABORTED"))
+    same(outcome(os.open, f"{mount.folder}/held", os.O_RDWR), "ENOTCONN")
+    for it in one, two:
+        it.kill()
+    mounts_again(mount.folder)
+
+
+def try_six_kills_within_a_minute():
+    mount = Resumed()
+    one, two = held_and_waited_for(mount)
+    for _ in range(5):
+        mount.cut()
+    os.kill(mount.server(), signal.SIGKILL)
+    lost(mount, one, two, 1, "was killed by SIGKILL: it was started again 5 times within a minute, and isn't any more")
+    same(mount.output().splitlines()[-1], "legal")
+
+
+def try_a_file_that_was_changed():
+    mount = Resumed()
+    one, two = held_and_waited_for(mount)
+    with open(mount.file, "r+b") as it:
+        it.write(b"x")
+    os.kill(mount.server(), signal.SIGKILL)
+    lost(mount, one, two, 3, "bad line 1", "the server ended with status 2 before it listened", f"can't go on with {mount.file}")
+
+
+def try_a_file_that_is_gone_or_cut():
+    """A server that knows less than the one before doesn't follow it, since two would have one lock."""
+    def cut(file):
+        # The mount sees how long it is every three seconds.
+        time.sleep(7)
+        os.truncate(file, os.path.getsize(file) // 2)
+
+    def replace(file):
+        os.replace(shutil.copy(file, f"{file}.copy"), file)
+
+    for spoil, status in (os.remove, 3), (cut, 1), (replace, 1):
+        mount = Resumed()
+        one, two = held_and_waited_for(mount)
+        spoil(mount.file)
+        os.kill(mount.server(), signal.SIGKILL)
+        lost(mount, one, two, status, f"{mount.file} was removed, replaced or cut: another server wouldn't know all locks")
+
+
+def try_a_program_that_is_gone():
+    gate = Gate()
+    mount = Resumed(**gate.words)
+    one, two = held_and_waited_for(mount)
+    os.unlink(gate.program)
+    os.kill(mount.server(), signal.SIGKILL)
+    # It judges no trace any more, either.
+    lost(mount, one, two, 3, "the server ended with status 127 before it listened", f"{gate.program} can't go on with {mount.file}")
+
+
+def try_term_while_the_server_is_started():
+    def ends():
+        gate = Gate()
+        mount = Resumed(**gate.words)
+        one, two = held_and_waited_for(mount)
+        gate.shut()
+        os.kill(mount.server(), signal.SIGKILL)
+        until(lambda: "and is started again" in mount.output())
+        begun = time.monotonic()
+        mount.term()
+        same(two.answer(), "ECONNABORTED")
+        until(lambda: mount.running.poll() is not None or "their locks are lost" in mount.output())
+        return (gate, mount, one, two), time.monotonic() - begun
+    gate, mount, one, two = soon(5, ends)
+    gate.open()
+    same(mount.end(lambda: None), (4, "legal"))
+    same(mount.servers(), [])
+    one.kill()
+    two.kill()
+
+
+def try_term_waits_for_a_server_that_open_files_need():
+    gate = Gate()
+    mount = Resumed("--grace", str(PATIENCE), **gate.words)
+    (one,) = children(f"{mount.folder}/held", 1)
+    same(one.ask("flock", "a", ALONE), "ok")
+    gate.shut()
+    os.kill(mount.server(), signal.SIGKILL)
+    until(lambda: "and is started again" in mount.output())
+    mount.term()
+    time.sleep(0.3)
+    gate.open()
+    until(lambda: f"waiting {PATIENCE} seconds" in mount.output())
+    os.kill(mount.server(), signal.SIGKILL)
+    mount.goes_on(2)
+    same(one.ask("close", "a"), "ok")
+    same(mount.end(lambda: None), (0, "legal"))
+
+
+# ---- Words and files ----
+
+def try_what_cannot_be_resumed():
+    folder, new = tempfile.mkdtemp(dir=WORK), tempfile.mkdtemp(dir=WORK) + "/file"
+    both = "--resume goes with one worker, and without --trace"
+    wanted = [(f"{__file__} isn't an empty file: name a new one", "--resume", __file__), ("isn't an empty file", "--resume", folder),
+              (both, "--resume", new, "--workers", "2"), (both, "--resume", new, "--trace", "none"), (both, "--trace", new, "--resume", new),
+              ("no folder for /no/such/file", "--resume", "/no/such/file"), ("takes go-on, and with", "--resume", new, "--trace-full", "go-on"),
+              ("takes go-on, and with", "--trace", new, "--trace-full", "wait")]
+    for said, *words in wanted:
+        contains(refusal(*words, folder=folder), said)
+    same(os.path.exists(new), False)
+    mount = Mount("--workers", "1", "--resume", new, "--trace-full", "wait", folder=folder)
+    same(mount.end(), (0, "legal"))
+    contains(refusal("--resume", new, folder=folder), "isn't an empty file")
+
+
+def try_an_empty_file_that_is_there():
+    with tempfile.NamedTemporaryFile(dir=WORK) as it:
+        mount = Resumed(file=it.name)
+        shell(mount, "flock job echo in", "in")
+        mount.cut()
+        shell(mount, "flock job echo in", "in")
+        same(mount.end(), (0, "legal"))
+
+
+# ---- A full disk ----
+
+def full_disk():
+    """A folder on a small disk, whose file `rest` takes all of it."""
+    disk = tempfile.mkdtemp(dir=WORK)
+    subprocess.run(["mount", "-t", "tmpfs", "-o", "size=64k", "none", disk], check=True, timeout=PATIENCE)
+    return disk
+
+
+def fill(disk):
+    with open(f"{disk}/rest", "wb", buffering=0) as rest:
+        while outcome(rest.write, bytes(4096)) == 4096:
+            pass
+
+
+def lock_often(mount):
+    for _ in range(100):
+        shell(mount, "flock job true", "")
+
+
+def try_calls_wait_while_the_disk_is_full():
+    """The server is killed meanwhile, too. No lock is lost, and no line."""
+    disk = full_disk()
+    mount = Resumed(file=f"{disk}/file")
+    (one,) = children(f"{mount.folder}/held", 1)
+    same(one.ask("flock", "a", ALONE), "ok")
+    fill(disk)
+    locking = threading.Thread(target=lock_often, args=(mount,), daemon=True)
+    locking.start()
+    until(lambda: f"cannot write {mount.file}: " in mount.output())
+    os.kill(mount.server(), signal.SIGKILL)
+    time.sleep(0.5)
+    assert locking.is_alive() and mount.running.poll() is None, mount.output()
+    os.unlink(f"{disk}/rest")
+    locking.join(3 * PATIENCE)
+    same((locking.is_alive(), outcome(shell, mount, "flock -n held true || echo held", "held")), (False, None))
+    one.kill()
+    same(mount.end(), (0, "legal"))
+    asked_once(mount.lines())
+    unmount(disk)
+
+
+def try_a_full_disk_may_end_it():
+    disk = full_disk()
+    mount = Resumed("--trace-full", "end", file=f"{disk}/file")
+    fill(disk)
+    locking = subprocess.Popen(["sh", "-c", "while flock job true; do :; done"], cwd=mount.folder, stderr=subprocess.DEVNULL)
+    status, _ = mount.end(lambda: None)
+    locking.wait(PATIENCE)
+    mount.says("trace failed", "the server ended with status 2\n")
+    same(("is started again" in mount.output(), status), (False, 1))
+    subprocess.run(["umount", "-l", disk], check=True, timeout=PATIENCE)

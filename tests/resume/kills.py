@@ -1,0 +1,265 @@
+"""Tries `lockd serve --resume` of the built program: a server that is killed at each of its reads and writes, and goes on where it was.
+
+The client of `tests/resume/kit.py` sends again what has no reply. Each time its replies and the trace are those of a session that wasn't cut,
+byte for byte. `tests/shims/die.c` kills the server; it wants a C compiler. `tries.py` says how it ends. `DEATHS=1000 tests/resume/kills.py
+try_killed_again_and_again` kills up to a thousand servers at random calls.
+"""
+import os
+import random
+import shutil
+import socket
+import subprocess
+import sys
+import tempfile
+from concurrent.futures import ThreadPoolExecutor
+
+from tests import tries
+from tests.resume import kit
+from tests.tries import CREATE, INIT, TOP, Server, judged, message, peak, replies, take
+from tests.resume.kit import (EAGAIN, FEW, KILLED, LINES, MARK, READ, SETLK, SETLKW, UNLOCK, WORKED, WRITE, Client, Gone, goes_on, is_stored, is_whole,
+                             locks, marked, resuming)
+
+WORK = tempfile.TemporaryDirectory(prefix="try-resumed-")
+SHIM = f"{WORK.name}/die.so"
+DEATHS = int(os.environ.get("DEATHS", "60"))
+
+
+# ---- a session that is cut
+
+def dying(number, how):
+    """The environment of a server that dies at its call of this number: before it, after it, or after half of it."""
+    return {**os.environ, "LD_PRELOAD": SHIM, "DIE_AT": str(number), "DIE_HOW": how}
+
+
+def is_cut(rows, *deaths):
+    """The worked session, with servers that die so, one after the other, and one that doesn't. Says how many died."""
+    server = resuming(env=dying(*deaths[0]))
+    client, rows = Client(server), [*rows]
+    for died in range(len(deaths) + 1):
+        try:
+            goes_on(client, rows)
+            is_whole(client)
+            return died
+        except Gone:
+            client.close()
+            ended = server.ended()
+            assert ended == (b"", "", KILLED), ended
+            is_stored(client)
+            server.start(env=dying(*deaths[died + 1]) if died + 1 < len(deaths) else None)
+    raise AssertionError("the server that wasn't to die is gone")
+
+
+def at_each(rows, how):
+    """Cuts the session at each call in turn, until there are no more. Says how many there are."""
+    with ThreadPoolExecutor() as pool:
+        for first in range(1, 10_000, 16):
+            died = [*pool.map(lambda it: is_cut(rows, (it, how)), range(first, first + 16))]
+            if not all(died):
+                return first - 1 + sum(died)
+    raise AssertionError("there is no last one")
+
+
+def try_a_session_that_is_not_cut():
+    """It has the replies that stand beside the messages, and the trace of a server that doesn't resume."""
+    client = Client(resuming())
+    goes_on(client, [*WORKED])
+    is_whole(client)
+    assert client.errors() == {it for row in WORKED for _, told in row for it in told}, client.errors()
+    assert client.server.traced().count(b"\n") == 113
+
+
+def try_each_death():
+    """With a few messages under way, and with one. A row takes at least a read, a write of the file and one of the socket."""
+    said = []
+    for name, rows in ("in rows", WORKED), ("singly", kit.SINGLY):
+        for how, calls in ("before", 3), ("half", 2), ("after", 3):
+            count = at_each(rows, how)
+            assert count >= calls * len(WORKED), (name, how, count)
+            said.append(f"{name} {count} {how}")
+    return ", ".join(said)
+
+
+def try_each_death_while_it_resumes():
+    """A server dies within a write, and the next one at each of its first calls."""
+    seconds = [*((it, "before") for it in range(1, 9)), *((it, "half") for it in range(1, 4))]
+    deaths = [((first, "half"), second) for first in range(1, 2 * len(WORKED), 2) for second in seconds]
+    with ThreadPoolExecutor() as pool:
+        died = [*pool.map(lambda it: is_cut(WORKED, *it), deaths)]
+    assert died.count(2) > len(deaths) // 2, died
+    return f"{died.count(2)} twice"
+
+
+def try_killed_again_and_again():
+    """Servers that die at random calls, up to three in a session."""
+    def cut(seed):
+        numbers = random.Random(seed)
+        rows = numbers.choice([WORKED, kit.SINGLY])
+        return is_cut(rows, *((numbers.randrange(1, len(rows)), numbers.choice(["before", "half", "after"])) for _ in range(3)))
+
+    with ThreadPoolExecutor() as pool:
+        died = sum(pool.map(cut, range(DEATHS // 3)))
+    assert died > DEATHS // 2, died
+    return f"{died} died"
+
+
+def try_a_hundred_that_wait():
+    """Two servers are killed while they wait, and the third grants each its lock in the old order."""
+    waiting = range(10, 110)
+    server = resuming()
+    client = Client(server)
+    client.meet()
+    client.ask(FEW[:2] + [(locks(SETLKW, it, it, 0, 9, WRITE), []) for it in waiting])
+    for _ in range(2):
+        server.serving.kill()
+        assert server.ended() == (b"", "", KILLED)
+        client.close()
+        server.start()
+        client.meet()
+        client.send_again()
+    for owner, freed in zip([7, *waiting], waiting):
+        client.ask([(locks(SETLK, 200 + freed, owner, 0, 9, UNLOCK), [(200 + freed, 0), (freed, 0)])])
+    client.finish()
+    assert server.ended() == (b"", "", 0)
+    assert [it for it in kit.told(server.traced()) if it in waiting] == [*waiting]
+    assert kit.asked(server.traced()) == [2, 3, *waiting, *(200 + it for it in waiting)], kit.asked(server.traced())
+    assert all(len(it) == 1 for it in client.found.values())
+    assert judged(server.traced()) == "legal\n"
+
+
+def try_locks_survive():
+    """Three clients come, each to a server of its own. What the first holds keeps the second from its lock, and the third's unlock gives a lock
+    to a request of the first, which waited."""
+    server = resuming()
+    refused, unlock = (locks(SETLK, 8, 10, 9, 9, READ), [(8, EAGAIN)]), (locks(SETLK, 9, 7, 0, 9, UNLOCK), [(9, 0), (4, 0)])
+    for row in FEW[:3], [refused], [unlock]:
+        client = Client(server)
+        client.meet()
+        client.ask(row)
+        assert client.errors() == {it for _, told in row for it in told}, client.errors()
+        client.finish()
+        assert server.ended() == (b"", "", 0)
+        server.start()
+    assert judged(server.traced()) == "legal\n"
+
+
+# ---- messages that are sent again
+
+def is_told(server, sent, told):
+    """A client that sends these messages together gets these replies, by unique and error, in this order."""
+    with server.connect() as client:
+        client.sendall(INIT + b"".join(sent))
+        client.shutdown(socket.SHUT_WR)
+        found = take(client, sys.maxsize)
+    assert replies(found[80:]) == told, replies(found[80:])
+    assert server.ended() == (b"", "", 0)
+    return found[80:]
+
+
+def try_sent_again():
+    """What is answered is answered once more, and what waits goes on waiting. What is new is an order, under its unique without the mark."""
+    unlock = locks(SETLK, 6, 7, 0, 9, UNLOCK)
+    new = [kit.interrupt(8, 99), kit.look(9, 2), kit.lookup(10, b"b"), kit.forget(11, 99, 1), kit.forget_each(12, (98, 1), (97, 1))]
+    sent = [*(it for it, _ in FEW[:4]), *(marked(it) for it, _ in FEW[:4]), marked(unlock), *(marked(it) for it, _ in FEW[:4]), marked(unlock)]
+    told = [(2, 0), (3, 0), (2, 0), (3, 0), (6, 0), (4, 0), (5, 0), (2, 0), (3, 0), (4, 0), (5, 0), (6, 0)]
+    told += [(8, EAGAIN), (9, 0), (10, kit.ENOENT)] * 3
+    server = resuming()
+    found = is_told(server, sent + [marked(it) for it in new * 3], told)
+    assert found[:160] == found[176:336], "another reply to the CREATE"
+    assert kit.asked(server.traced()) == [2, 3, 4, 5, 6, 8, 9, 10, 11, 12, 12], kit.asked(server.traced())
+    assert judged(server.traced()) == "legal\n"
+
+
+def try_sent_again_to_another_server():
+    """The same, where the lines are those of a file. Its last order lacks a reply, and its batch two pairs."""
+    text = LINES.split(b"tell 5 ok")[0]
+    server = resuming(traced=text)
+    told = [(2, 0), (3, 0), (4, 0), (5, 0), (6, 0), (7, EAGAIN), (7, EAGAIN)]
+    is_told(server, [marked(it) for it, _ in FEW] + [marked(FEW[-1][0])], told)
+    assert server.traced() == LINES, server.traced()
+    pairs = [(99, 1), (2, 0), (98, 1), (97, 1)]
+    batch = b"".join(b"ask 0 8 %d 0 0 0 forget %d\n" % it for it in pairs)
+    for count in range(5):
+        server = resuming(traced=LINES + b"".join(batch.splitlines(True)[:count]) + b"ask 0 8")
+        is_told(server, [marked(kit.forget_each(8, *pairs)), marked(kit.forget_each(8, *pairs)), kit.look(9, 2)], [(9, 0)])
+        assert server.traced().startswith(LINES + batch + b"ask 0 9 "), (count, server.traced())
+
+
+def try_sent_again_that_is_no_order():
+    """It is answered each time, and is no line."""
+    unknown, short = message(4, 3, 2, bytes(88)), message(SETLK, 4, 2, b"")
+    server = resuming()
+    is_told(server, [CREATE, unknown, marked(unknown), marked(short)], [(2, 0), (3, kit.ENOSYS), (3, kit.ENOSYS), (4, kit.EINVAL)])
+    assert kit.asked(server.traced()) == [2]
+
+
+def try_a_mark_without_resuming():
+    """It is a bit of the unique like others."""
+    for workers in 1, 4:
+        server = Server("--trace", "{file}", workers=workers)
+        is_told(server, [marked(CREATE)], [(2 | MARK, 0)])
+        assert kit.asked(server.traced()) == [2 | MARK]
+
+
+def fill(client, uniques):
+    """Locks and unlocks of a byte, one for each of these uniques."""
+    for at in range(0, len(uniques), 64):
+        row = uniques[at:at + 64]
+        client.sendall(b"".join(locks(SETLK, it, 99, 500, 500, WRITE + it % 2) for it in row))
+        assert replies(take(client, 16 * len(row))) == [(it, 0) for it in row]
+
+
+def try_the_last_lines():
+    """The CREATE stands in the last 65,536 lines, the second time at a server that has read them. A pair of lines later it is a new order, and
+    the file is open a second time. What waits goes on waiting, though its line has gone."""
+    server = resuming()
+    with server.connect() as client:
+        client.sendall(INIT + CREATE + locks(SETLK, 3, 7, 0, 0, WRITE) + locks(SETLKW, 4, 8, 0, 0, WRITE) + kit.forget(5, 99, 1))
+        first = take(client, 80 + 160 + 16)[80:240]
+        fill(client, range(100, 100 + (65_536 - 6) // 2))
+        client.sendall(marked(CREATE))
+        assert take(client, 160) == first
+    assert server.ended() == (b"", "", 0)
+    assert server.traced().count(b"\n") == 65_536
+    server.start()
+    with server.connect() as client:
+        client.sendall(INIT + marked(CREATE))
+        assert take(client, 80 + 160)[80:] == first
+        fill(client, range(50_000, 50_001))
+        client.sendall(marked(CREATE))
+        assert int.from_bytes(first[144:152], "little") == 1 and int.from_bytes(take(client, 160)[144:152], "little") == 2
+        fill(client, range(50_001, 50_002))
+        client.sendall(marked(locks(SETLKW, 4, 8, 0, 0, WRITE)) + locks(SETLK, 6, 7, 0, 0, UNLOCK))
+        assert replies(take(client, 32)) == [(6, 0), (4, 0)]
+    assert server.ended() == (b"", "", 0)
+    uniques = kit.asked(server.traced())
+    assert (uniques.count(2), uniques.count(4)) == (2, 1)
+    assert judged(server.traced()) == "legal\n"
+
+
+# ---- memory
+
+def try_memory_stays():
+    """A server that goes on behind many lines has as much memory as one behind few."""
+    peaks = []
+    for count in 40_000, 200_000:
+        before = Server("--trace", "{file}")
+        assert not any(before.session(count))
+        assert before.ended() == (b"", "", 0)
+        client = Client(resuming(traced=before.traced()))
+        client.meet()
+        peaks.append(peak(client.server.serving))
+    assert peaks[1] < peaks[0] + 1024, peaks
+    return f"kilobytes: {peaks[0]} to {peaks[1]}"
+
+
+def main():
+    compiler = shutil.which("cc")
+    if not compiler:
+        print("resume/kills: not tried: there is no C compiler", file=sys.stderr)
+        return tries.NOT_TRIED
+    subprocess.run([compiler, "-shared", "-fPIC", "-O1", "-o", SHIM, f"{TOP}/tests/shims/die.c"], check=True)
+    return tries.main("resume/kills", globals())
+
+
+if __name__ == "__main__":
+    sys.exit(main())

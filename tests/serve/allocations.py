@@ -1,0 +1,184 @@
+"""Refuses each allocation of the built `lockd serve` in turn, and of `lockd drive`, and counts those that orders take. Wants a C compiler and the GNU C library; where there is
+none it says so, with status 77.
+
+A server ends with status 2, `no memory` and no trace, or else goes on: its trace is legal, each order that is no line of it was told that it is
+refused, and all replies are those of the trace. One that says `no memory` answered nobody. `tries.py` says how it ends.
+"""
+import os
+import re
+import shutil
+import subprocess
+import sys
+import tempfile
+
+from tests import tries
+from tests.tries import CREATE, INIT, PATIENCE, PROGRAM, TOP, Server, judged, lock, message, replies, setlk, take
+
+WORK = tempfile.TemporaryDirectory(prefix="refuse-")
+SHIM, ASKED = f"{WORK.name}/refuse.so", f"{WORK.name}/asked"
+EAGAIN, ENOMEM = 11, 12
+FORGET, SETLK, SETLKW, INTERRUPT = 2, 32, 33, 36
+READ, WRITE, UNLOCK = range(3)
+DRIVEN = f"{TOP}/examples/two_locks_driven.txt"
+
+
+def refusing(number):
+    """The environment of a program whose allocation of this number is refused, from 1; of none where it is 0."""
+    return {**os.environ, "LD_PRELOAD": SHIM, "REFUSE": str(number), "ASKED": ASKED}
+
+
+def asked():
+    """How many allocations the last program asked for."""
+    with open(ASKED, encoding="ascii") as file:
+        return int(file.read())
+
+
+def waiting():
+    """200 orders: a file, and then a lock of a byte, three requests that wait for it, an INTERRUPT of one of them, a FORGET and two
+    unlocks, over and over at another byte."""
+    orders = {2: CREATE}
+    for first in range(3, 199, 8):
+        byte = first
+        orders[first] = lock(SETLK, first, 7, byte, WRITE)
+        for behind in 1, 2, 3:
+            orders[first + behind] = lock(SETLKW, first + behind, 7 + behind, byte, READ if behind == 3 else WRITE)
+        orders[first + 4] = message(INTERRUPT, first + 4, 0, (first + 2).to_bytes(8, "little"))
+        orders[first + 5] = message(FORGET, first + 5, 99, (1).to_bytes(8, "little"))
+        orders[first + 6] = lock(SETLK, first + 6, 7, byte, UNLOCK)
+        orders[first + 7] = lock(SETLK, first + 7, 8, byte, UNLOCK)
+    return dict(list(orders.items())[:200])
+
+
+def locks():
+    """Some thousand locks and unlocks, for which the history grows again."""
+    return {2: CREATE, **{unique: setlk(unique) for unique in range(3, 4_200)}}
+
+
+def talk(server, orders):
+    """All replies to an INIT and these orders, sent without waiting for any; none where the server is gone."""
+    try:
+        with server.connect() as client:
+            client.sendall(INIT)
+            if len(take(client, 80)) < 80:
+                return None
+            sent = b"".join(orders.values())
+            found = b""
+            # A client that only sends may stop a server that only answers.
+            for at in range(0, len(sent), 1 << 14):
+                client.sendall(sent[at:at + (1 << 14)])
+                client.setblocking(False)
+                try:
+                    found += client.recv(1 << 20)
+                except BlockingIOError:
+                    pass
+                client.settimeout(PATIENCE)
+            client.shutdown(1)
+            return replies(found + take(client, 1 << 30))
+    except (BrokenPipeError, ConnectionError, FileNotFoundError):
+        return None
+
+
+def refusal(unique, order):
+    """What an order is told that finds no memory."""
+    opcode = order[4]
+    return [] if opcode == FORGET else [(unique, EAGAIN if opcode == INTERRUPT else ENOMEM)]
+
+
+def is_served(orders, printed, found):
+    """The replies are those of the trace, which is legal, and of the orders that are no lines of it. Gives how many these are."""
+    assert judged(printed) == "legal\n", judged(printed)
+    text = printed.decode()
+    taken = {int(it) for it in re.findall(r"^ask \d+ (\d+) ", text, re.M)}
+    told = [(int(unique), int(error or 0)) for unique, error in re.findall(r"^tell (\d+) (?:err (\d+))?", text, re.M)]
+    refused = [it for unique, order in orders.items() if unique not in taken for it in refusal(unique, order)]
+    assert sorted(found) == sorted(told + refused), (sorted(found), sorted(told + refused))
+    return len(orders) - len(taken)
+
+
+def serve(orders, workers, number):
+    """Says how many orders were refused; none where it ended with no memory, having answered nobody."""
+    server = Server(workers=workers, env=refusing(number))
+    found = talk(server, orders)
+    printed, told, status = server.ended()
+    if (printed, told, status) == (b"", "no memory\n", 2):
+        assert found is None, (number, found)
+        return None
+    assert (told, status) == ("", 0) and found is not None, (number, told, status)
+    refused = is_served(orders, printed, found)
+    assert refused <= 1, (number, refused)
+    return refused
+
+
+def serve_each(orders, workers):
+    assert serve(orders, workers, 0) == 0
+    came = [serve(orders, workers, number) for number in range(1, asked() + 1)]
+    assert None in came and 1 in came, came
+    return f"{len(came)} refused: {came.count(None)} ended with no memory, {came.count(1)} refused an order"
+
+
+def try_a_desk_of_thousands():
+    """One worker is one thread, and takes orders at a desk of its own."""
+    return serve_each(locks(), 1)
+
+
+def try_a_board_of_thousands():
+    return serve_each(locks(), 2)
+
+
+def try_a_server_with_requests_that_wait():
+    return serve_each(waiting(), 4)
+
+
+def try_an_order_takes_no_memory():
+    """A server that keeps no line asks for as many allocations without an order as for thousands."""
+    counts = {}
+    for workers in 1, 4:
+        for orders in {}, waiting(), locks():
+            server = Server("--trace", "none", workers=workers, env=refusing(0))
+            assert talk(server, orders) is not None
+            assert server.ended() == (b"", "", 0)
+            counts.setdefault(workers, set()).add(asked())
+    assert all(len(each) == 1 for each in counts.values()), counts
+    return ", ".join(f"{workers} workers: {each.pop()}" for workers, each in counts.items())
+
+
+def drive(number):
+    server = Server("--trace", "none")
+    server.listens()
+    with open(DRIVEN, "rb") as lines:
+        ran = subprocess.run([PROGRAM, "drive", server.path], stdin=lines, capture_output=True, timeout=PATIENCE, env=refusing(number))
+    if server.serving.poll() is None:
+        try:
+            server.connect().close()
+        except (ConnectionError, FileNotFoundError):
+            pass
+    server.ended()
+    return ran.stdout.splitlines(True), ran.stderr.decode(), ran.returncode
+
+
+def try_a_client():
+    wanted, told, status = drive(0)
+    assert (len(wanted), told, status) == (4, "", 0), (wanted, told, status)
+    count, without = asked(), 0
+    for number in range(1, count + 1):
+        printed, told, status = drive(number)
+        if (told, status) == ("no memory\n", 2):
+            assert printed == wanted[:len(printed)], (number, printed)
+            without += 1
+        else:
+            assert (printed, told, status) == (wanted, "", 0), (number, told, status)
+    assert without
+    return f"{count} refused: {without} ended with no memory"
+
+
+def main():
+    compiler = shutil.which("cc")
+    if not compiler:
+        print("refuse_served_allocations: not tried: there is no C compiler", file=sys.stderr)
+        return tries.NOT_TRIED
+    subprocess.run([compiler, "-shared", "-fPIC", "-O1", "-fno-builtin", "-o", SHIM, f"{TOP}/tests/shims/refuse.c"], check=True)
+    return tries.main("refuse_served_allocations", globals())
+
+
+if __name__ == "__main__":
+    sys.exit(main())

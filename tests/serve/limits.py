@@ -1,0 +1,211 @@
+"""Tries the built `lockd` where the system has no more to give: open files, threads, letters of a path, room of an output; and with a
+client that doesn't read.
+
+Each function `try_..` is one thing that is tried. `tries.py` says how it ends.
+"""
+import os
+import resource
+import shutil
+import subprocess
+import sys
+import tempfile
+import threading
+import time
+
+from tests import tries
+from tests.tries import CREATE, INIT, PATIENCE, PROGRAM, Server, judged, replies, run, setlk, take
+
+SCRIPT = b"ask 0 1 1 0 0 0 create 0 420 61\n"
+NOBODY = 65534
+
+
+def with_three_open_files(*words, text):
+    """Runs a command that may open no file but its standard streams, from the moment on when it reads."""
+    running = subprocess.Popen([PROGRAM, *words], stdin=subprocess.PIPE, stdout=subprocess.PIPE, stderr=subprocess.PIPE)
+    tries.wait_until(lambda: is_reading(running))
+    resource.prlimit(running.pid, resource.RLIMIT_NOFILE, (3, 3))
+    printed, told = running.communicate(text, timeout=PATIENCE)
+    return printed, told.decode(), running.returncode
+
+
+def is_reading(process):
+    """It waits in a read of standard input. The first word of the file is a call's number, and the second what it is called with."""
+    with open(f"/proc/{process.pid}/syscall", encoding="ascii") as file:
+        return file.read().split()[:2] == ["0", "0x0"]
+
+
+def try_three_open_files():
+    """Commands without a socket need no other, and a client can't connect."""
+    printed, told, status = with_three_open_files("script", text=SCRIPT)
+    assert printed.startswith(SCRIPT) and (told, status) == ("", 0), (told, status)
+    assert with_three_open_files("check", text=printed) == (b"legal\n", "", 0)
+    assert with_three_open_files("bytes", text=INIT.hex().encode() + b"\n")[1:] == ("", 0)
+    server = Server()
+    server.listens()
+    assert with_three_open_files("drive", server.path, text=b"") == (b"", "cannot connect\n", 2)
+    server.session(1)
+    assert server.ended()[1:] == ("", 0)
+
+
+def try_four_open_files():
+    """A server listens with the fourth, and can't accept, for which the system wants a fifth before anybody comes. It takes its socket's
+    file away."""
+    server = Server(before=lambda: resource.setrlimit(resource.RLIMIT_NOFILE, (4, 4)))
+    assert server.ended() == (b"", "cannot listen\n", 2)
+    assert not os.path.exists(server.path)
+
+
+def starved(program, threads):
+    """What a server with 4 workers says to its client where its user may have so many threads in all."""
+    def alone():
+        if os.getuid() == 0:
+            os.setgroups([])
+            os.setgid(NOBODY)
+            os.setuid(NOBODY)
+        resource.setrlimit(resource.RLIMIT_NPROC, (threads, threads))
+
+    server = Server(workers=4, before=alone, program=program)
+    with server.connect() as client:
+        try:
+            client.sendall(INIT + CREATE)
+            found = client.recv(1)
+        except (ConnectionResetError, BrokenPipeError):
+            found = b""
+    return found, *server.ended()
+
+
+def try_no_threads():
+    """None can be started, or some of the four. Nothing is read, nothing is printed, and those that were started end."""
+    with tempfile.TemporaryDirectory(prefix="try-lockd-") as folder:
+        os.chmod(folder, 0o755)
+        program = shutil.copy(PROGRAM, folder)
+        for threads in 1, 2, 3, 4:
+            assert starved(program, threads) == (b"", b"", "no memory\n", 2), threads
+
+
+def at_a_path(length):
+    """What a server and a client say where the socket's path has so many bytes."""
+    server = Server()
+    path = f"{server.folder.name}/".ljust(length, "x")
+    serving = subprocess.Popen([PROGRAM, "serve", path], stdout=subprocess.PIPE, stderr=subprocess.PIPE)
+    tries.wait_until(lambda: serving.poll() is not None or tries.is_listening(path))
+    client = run("drive", path, text=INIT.hex().encode() + b"\nrecv 1\n")
+    told = serving.communicate(timeout=PATIENCE)[1]
+    server.session(1)
+    server.ended()
+    return told, serving.returncode, client.stderr, client.returncode
+
+
+def try_paths():
+    """A path has 107 bytes at most."""
+    assert at_a_path(107) == (b"", 0, b"", 0)
+    assert at_a_path(108) == (b"cannot listen\n", 2, b"cannot connect\n", 2)
+
+
+def try_a_full_output():
+    with open("/dev/full", "wb") as full:
+        server = Server(printed=full)
+        server.session(100)
+        assert server.ended()[1:] == ("write failed\n", 2)
+        hexes = INIT.hex().encode() + b"\n"
+        for words, text in (["script"], SCRIPT), (["check"], b""), (["bytes"], hexes), (["--version"], b""):
+            ran = subprocess.run([PROGRAM, *words], input=text, stdout=full, stderr=subprocess.PIPE, timeout=PATIENCE)
+            assert (ran.stderr, ran.returncode) == (b"write failed\n", 2), (words, ran)
+
+
+def try_an_output_that_is_closed_meanwhile():
+    """Nobody reads the trace any more when it is printed."""
+    ours, theirs = os.pipe()
+    server = Server(printed=theirs)
+    os.close(theirs)
+    with server.connect() as client:
+        client.sendall(INIT + CREATE)
+        take(client, 80 + 160)
+        os.close(ours)
+    assert server.ended()[1:] == ("write failed\n", 2)
+
+
+def try_a_closed_output():
+    server = Server(printed=None, before=lambda: os.close(1))
+    server.session(100)
+    assert server.ended()[1:] == ("write failed\n", 2)
+
+
+def resident(process):
+    """Bytes of memory that a process has."""
+    with open(f"/proc/{process.pid}/status", encoding="ascii") as file:
+        return next(int(it.split()[1]) * 1024 for it in file if it.startswith("VmRSS"))
+
+
+class Unread:
+    """A client that sends locks and unlocks and reads no reply, until it is told to."""
+
+    def __init__(self, server, count):
+        self.count, self.sent = count, 0
+        self.client = server.connect()
+        self.client.sendall(INIT + CREATE)
+        take(self.client, 80 + 160)
+        self.sending = threading.Thread(target=self.send, daemon=True)
+        self.sending.start()
+
+    def send(self):
+        self.client.settimeout(None)
+        for unique in range(3, 3 + self.count):
+            self.client.sendall(setlk(unique))
+            self.sent += 1
+
+    def waits(self):
+        """It stands in a write. The first word of the file is the call's number."""
+        with open(f"/proc/self/task/{self.sending.native_id}/syscall", encoding="ascii") as file:
+            return file.read().split()[0] == "44"
+
+    def stand(self, server):
+        """Waits until no more goes out for a second, since it waits for the server and each thread of that sleeps. Says how many did."""
+        before, still, last = 0, 0, time.monotonic() + 5 * PATIENCE
+        while still < 4:
+            assert time.monotonic() < last, f"{self.sent} went out, and more do"
+            time.sleep(0.25)
+            still = still + 1 if before == self.sent and before and self.waits() and tries.states_of(server.serving) == {"S"} else 0
+            before = self.sent
+        return before
+
+    def read_all(self):
+        found = replies(take(self.client, 16 * self.count))
+        self.sending.join(PATIENCE)
+        return found
+
+
+def unread(count, *options, workers):
+    """The server stops reading where nobody reads its replies. Gives how much memory it took by then, and the server."""
+    server = Server(*options, workers=workers)
+    client = Unread(server, count)
+    first = client.stand(server)
+    assert 0 < first < count, first
+    stood = resident(server.serving)
+    time.sleep(0.5)
+    assert client.sent == first and resident(server.serving) - stood < 1 << 20
+    assert sorted(client.read_all()) == [(unique, 0) for unique in range(3, 3 + count)]
+    grown = resident(server.serving) - stood
+    client.client.close()
+    return server, first, grown
+
+
+def try_nobody_reads():
+    count = 100_000
+    for workers in 1, 4:
+        server, _, _ = unread(count, workers=workers)
+        printed, told, status = server.ended()
+        assert (told, status, printed.count(b"\n")) == ("", 0, 2 * count + 2), (told, status)
+        assert judged(printed) == "legal\n"
+
+
+def try_nobody_reads_and_no_trace_is_kept():
+    """Memory doesn't grow: some megabyte is that of threads which ran for the first time."""
+    for workers in 1, 4:
+        server, _, grown = unread(100_000, "--trace", "none", workers=workers)
+        assert grown < 2 << 20, grown
+        assert server.ended() == (b"", "", 0)
+
+
+if __name__ == "__main__":
+    sys.exit(tries.main("serve/limits", globals()))
