@@ -31,7 +31,7 @@ pub fn first_replies_are_those_of_the_orders_case()
     ensures { (p : Snapshot) (order : Order) (tolds : List Told) → AreApart p.view.parked →
         (tolds ≡ first_told p order) ↔ IsFirst p order tolds }
 {
-    fl_waiting::laws::a_circle_is_a_row_of_owners_who_wait();
+    fl_waiting::laws::a_circle_is_a_path_of_owners_who_wait();
 }
 
 /// Settling takes out the oldest request that doesn't wait, again and again, until each waits.
@@ -79,7 +79,7 @@ pub fn an_order_is_taken_in_stages()
         (present (next p order).marking (next p order).view.parked) }
 {
     fl_ranges::laws::a_change_counts_where_it_speaks();
-    fl_waiting::laws::a_circle_is_a_row_of_owners_who_wait();
+    fl_waiting::laws::a_circle_is_a_path_of_owners_who_wait();
 }
 
 /// What fair rules promise: while a request for a record lock is parked, a later SETLKW for a lock that conflicts

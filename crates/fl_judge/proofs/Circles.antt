@@ -4,20 +4,20 @@ use Rattle.std.proofs.Common.{◌≡◌, ◌≢◌, ℕ, Bool, true, ◌⊎◌, 
 use Rattle.std.proofs.Common.{ap, sym, ◌∙◌, subst}
 use Rattle.std.specs.List.{Contains}
 use Rattle.std.proofs.lemmas.List.Elements.{Contains-push_cases}
-use Rattle.fl_waiting.specs.Circle.{Waits, AreInRow, IsCircle}
+use Rattle.fl_waiting.specs.Circle.{Waits, IsPath, IsCircle}
 
 -- ---- a request is parked behind others
 
 module _ {A : Type 0} (owner : A → ℕ) (blocks : A → ℕ → Bool) (old : List A) (r : A) where
-  abbrev Row : ℕ → List ℕ → ℕ → Type 0
-  Row = AreInRow owner blocks old
+  abbrev Path : ℕ → List ℕ → ℕ → Type 0
+  Path = IsPath owner blocks old
 
-  abbrev NewRow : ℕ → List ℕ → ℕ → Type 0
-  NewRow = AreInRow owner blocks (old ++ r ∷ [])
+  abbrev NewPath : ℕ → List ℕ → ℕ → Type 0
+  NewPath = IsPath owner blocks (old ++ r ∷ [])
 
-  -- it is this owner, or waits for it in a row
+  -- it is this owner, or waits for it along a path
   Reaches : ℕ → ℕ → Type 0
-  Reaches p q = (p ≡ q) ⊎ ((others : List ℕ) × Row p others q)
+  Reaches p q = (p ≡ q) ⊎ ((others : List ℕ) × Path p others q)
 
   -- it reaches the owner who asks, whose request waits for one that reaches this owner
   record ByTheNew (p q : ℕ) : Type 0 where
@@ -27,24 +27,24 @@ module _ {A : Type 0} (owner : A → ℕ) (blocks : A → ℕ → Bool) (old : L
     pub from : Reaches next q
 
   Route : ℕ → ℕ → Type 0
-  Route p q = ((others : List ℕ) × Row p others q) ⊎ ByTheNew p q
+  Route p q = ((others : List ℕ) × Path p others q) ⊎ ByTheNew p q
 
   edge : (p q : ℕ) → Waits owner blocks (old ++ r ∷ []) p q → Waits owner blocks old p q ⊎ ((p ≡ owner r) × (blocks r q ≡ true))
   edge p q w =
       ⊎_elim (λ there. inl (record { request = w.request; among = there; of = w.of; blocked = w.blocked }))
       (λ is. inr (sym w.of ∙ ap owner (sym is), ap (λ s. blocks s q) is ∙ w.blocked)) (Contains-push_cases old r w.request w.among)
 
-  appended : (p : ℕ) (xs : List ℕ) (q : ℕ) (ys : List ℕ) (o : ℕ) → Row p xs q → Row q ys o → Row p (xs ++ q ∷ ys) o
+  appended : (p : ℕ) (xs : List ℕ) (q : ℕ) (ys : List ℕ) (o : ℕ) → Path p xs q → Path q ys o → Path p (xs ++ q ∷ ys) o
   appended p [] q ys o first second = (first, second)
   appended p (x ∷ xs) q ys o first second = (first.0, appended x xs q ys o first.1 second)
 
   reach_on : (p q o : ℕ) → Reaches p q → Reaches q o → Reaches p o
   unfolding Reaches
   reach_on p q o (inl e) second = subst (λ n. Reaches n o) (sym e) second
-  reach_on p q o (inr f) (inl e) = inr (f.0, subst (λ n. Row p f.0 n) e f.1)
+  reach_on p q o (inr f) (inl e) = inr (f.0, subst (λ n. Path p f.0 n) e f.1)
   reach_on p q o (inr f) (inr g) = inr (f.0 ++ q ∷ g.0, appended p f.0 q g.0 o f.1 g.1)
 
-  route : (p : ℕ) (others : List ℕ) (o : ℕ) → NewRow p others o → Route p o
+  route : (p : ℕ) (others : List ℕ) (o : ℕ) → NewPath p others o → Route p o
   unfolding Route Reaches
   route p [] o w =
       ⊎_elim (λ v. inl ([], v)) (λ e. inr (record { next = o; to = inl e.0; blocked = e.1; from = inl refl })) (edge p o w)
@@ -56,14 +56,14 @@ module _ {A : Type 0} (owner : A → ℕ) (blocks : A → ℕ → Bool) (old : L
       go (inr e) (inl f) = inr (record { next = q; to = inl e.0; blocked = e.1; from = inr f })
       go (inr e) (inr n) = inr (record { next = n.next; to = inl e.0; blocked = n.blocked; from = n.from })
 
-  pub none_once_parked : ((p : ℕ) (others : List ℕ) → Row p others p → ⊥) → (IsCircle owner blocks old r → ⊥)
-      → (blocks r (owner r) ≡ true → ⊥) → (p : ℕ) (others : List ℕ) → NewRow p others p → ⊥
+  pub none_once_parked : ((p : ℕ) (others : List ℕ) → Path p others p → ⊥) → (IsCircle owner blocks old r → ⊥)
+      → (blocks r (owner r) ≡ true → ⊥) → (p : ℕ) (others : List ℕ) → NewPath p others p → ⊥
   unfolding Route Reaches
-  none_once_parked none closes itself p others row = go (route p others p row)
+  none_once_parked none closes itself p others path = go (route p others p path)
     where
       back : (n : ℕ) → blocks r n ≡ true → Reaches n (owner r) → ⊥
       back n h (inl e) = itself (ap (blocks r) (sym e) ∙ h)
-      back n h (inr f) = closes (record { first = n; others = f.0; blocked = h; row = f.1 })
+      back n h (inr f) = closes (record { first = n; others = f.0; blocked = h; path = f.1 })
 
       go : Route p p → ⊥
       go (inl f) = none p f.0 f.1
@@ -75,7 +75,7 @@ module _ {A : Type 0} (owner : A → ℕ) (before after : A → ℕ → Bool) (o
     (lone : (s : A) → Contains new s → gainer ≢ Some (owner s))
     (was : (s : A) → Contains new s
     → (t : A) × Contains old t × (owner t ≡ owner s) × ((q : ℕ) → gainer ≢ Some q → after s q ≡ true → before t q ≡ true)) where
-  first_waits : (p : ℕ) (others : List ℕ) (q : ℕ) → AreInRow owner after new p others q → gainer ≢ Some p
+  first_waits : (p : ℕ) (others : List ℕ) (q : ℕ) → IsPath owner after new p others q → gainer ≢ Some p
   first_waits p [] q w is = lone w.request w.among (is ∙ ap (λ n. Some n) (sym w.of))
   first_waits p (next ∷ others) q w is = lone (w.0).request (w.0).among (is ∙ ap (λ n. Some n) (sym (w.0).of))
 
@@ -84,10 +84,10 @@ module _ {A : Type 0} (owner : A → ℕ) (before after : A → ℕ → Bool) (o
       let t = was w.request w.among in
       record { request = t.0; among = t.1; of = t.2 ∙ w.of; blocked = t.3 q other w.blocked }
 
-  row_before : (p : ℕ) (others : List ℕ) (q : ℕ) → gainer ≢ Some q → AreInRow owner after new p others q → AreInRow owner before old p others q
-  row_before p [] q other w = as_before p q other w
-  row_before p (next ∷ others) q other w = (as_before p next (first_waits next others q w.1) w.0, row_before next others q other w.1)
+  path_before : (p : ℕ) (others : List ℕ) (q : ℕ) → gainer ≢ Some q → IsPath owner after new p others q → IsPath owner before old p others q
+  path_before p [] q other w = as_before p q other w
+  path_before p (next ∷ others) q other w = (as_before p next (first_waits next others q w.1) w.0, path_before next others q other w.1)
 
-  pub none_once_gained : ((p : ℕ) (others : List ℕ) → AreInRow owner before old p others p → ⊥)
-      → (p : ℕ) (others : List ℕ) → AreInRow owner after new p others p → ⊥
-  none_once_gained none p others row = none p others (row_before p others p (first_waits p others p row) row)
+  pub none_once_gained : ((p : ℕ) (others : List ℕ) → IsPath owner before old p others p → ⊥)
+      → (p : ℕ) (others : List ℕ) → IsPath owner after new p others p → ⊥
+  none_once_gained none p others path = none p others (path_before p others p (first_waits p others p path) path)

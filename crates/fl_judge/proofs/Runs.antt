@@ -8,7 +8,7 @@ use Rattle.std.proofs.lemmas.List.{take_all}
 use Rattle.std.proofs.lemmas.List.Sums.{fold-append}
 use Rattle.std.proofs.lemmas.Option.{get_or_from_slice_get, slice_get_within}
 use Rattle.std.specs.List.{fold}
-use Rattle.fl_waiting.specs.Circle.{waiter_of, blocks, AreInRow}
+use Rattle.fl_waiting.specs.Circle.{waiter_of, blocks, IsPath}
 use Rattle.fl_core.specs.Settling.{present}
 use Rattle.fl_core.specs.Stages.{asked_by, IsTakenInStages}
 use Rattle.fl_core.specs.State.{Snapshot, opening, snapshot_of}
@@ -182,9 +182,9 @@ module _ (leads_on : (lines : List Line) (p : Snapshot) (worker : ℕ) (order : 
     sound_next p order waiting apart quiet sound =
         step_sound p.rules order (present p.marking p.view.parked) (present (next p order).marking (next p order).view.parked) (stages p order waiting apart) quiet sound
 
-    none_waits : (rules : Rules) (first : ℕ) (others : List ℕ) → AreInRow waiter_of (blocks (snapshot_of (opening rules)).rules (snapshot_of (opening rules)).marking) [] first others first → ⊥
-    none_waits rules first [] row = absurd (omega (arith, row.among.1))
-    none_waits rules first (second ∷ others) row = absurd (omega (arith, (row.0).among.1))
+    none_waits : (rules : Rules) (first : ℕ) (others : List ℕ) → IsPath waiter_of (blocks (snapshot_of (opening rules)).rules (snapshot_of (opening rules)).marking) [] first others first → ⊥
+    none_waits rules first [] path = absurd (omega (arith, path.among.1))
+    none_waits rules first (second ∷ others) path = absurd (omega (arith, (path.0).among.1))
 
     opening_sound : (rules : Rules) → IsSoundAt (snapshot_of (opening rules))
     opening_sound rules = record { lone = tt; free = none_waits rules }

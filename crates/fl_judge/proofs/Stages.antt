@@ -9,7 +9,7 @@ use Rattle.std.proofs.lemmas.List.{append-nil, append_assoc}
 use Rattle.std.proofs.lemmas.List.Elements.{filter_map-append}
 use Rattle.std.proofs.lemmas.Option.{none-some}
 use Rattle.std.specs.FinMap.{entries}
-use Rattle.fl_waiting.specs.Circle.{Waiter, waiter_of, waiters_behind, waiters, behind, blocks, AreInRow, ClosesCircle}
+use Rattle.fl_waiting.specs.Circle.{Waiter, waiter_of, waiters_behind, waiters, behind, blocks, IsPath, ClosesCircle}
 use Rattle.fl_waiting.specs.Circle.{is_record}
 use Rattle.fl_core.specs.Settling.{Present}
 use Rattle.fl_core.specs.Stages.{asked_by, wanted_by, GainsAtMost, OwnStage, changes, parks, LaterStage, leave, granted}
@@ -222,7 +222,7 @@ lone_without (a ∷ older) r younger w wants lone = go (wish_of a) (lone_without
 -- no two parked record requests are of one owner, and owners don't wait in a circle
 pub record IsSound (rules : Rules) (s : Present) : Type 0 where
   pub lone : AreLone (wishes s.parked)
-  pub free : (first : ℕ) (others : List ℕ) → AreInRow waiter_of (blocks rules s.marking) (waiters s.parked) first others first → ⊥
+  pub free : (first : ℕ) (others : List ℕ) → IsPath waiter_of (blocks rules s.marking) (waiters s.parked) first others first → ⊥
 
 gained_sound : (rules : Rules) (before after : Present) (gainer : Option ℕ) → Part (wishes after.parked) (wishes before.parked)
     → GainsAtMost rules gainer before.marking after.marking → ((s : Wish) → Contains (wishes after.parked) s → gainer ≢ Some (owner_of s))
@@ -296,8 +296,8 @@ parked_sound : (rules : Rules) (before after : Present) (r : Request) (w : Wish)
 parked_sound rules before after r w wants others closes marks parked are sound = record {
   lone = subst AreLone (sym are) (lone_pushed (wishes before.parked) w sound.lone others);
   free =
-      subst (λ m. (first : ℕ) (rest : List ℕ) → AreInRow waiter_of (blocks rules m) (waiters after.parked) first rest first → ⊥) (sym marks)
-      (subst (λ ws. (first : ℕ) (rest : List ℕ) → AreInRow waiter_of (blocks rules before.marking) ws first rest first → ⊥)
+      subst (λ m. (first : ℕ) (rest : List ℕ) → IsPath waiter_of (blocks rules m) (waiters after.parked) first rest first → ⊥) (sym marks)
+      (subst (λ ws. (first : ℕ) (rest : List ℕ) → IsPath waiter_of (blocks rules before.marking) ws first rest first → ⊥)
       (sym (ap (waiters_behind []) are ∙ waiters_pushed [] (wishes before.parked) w))
       (none_once_parked waiter_of (blocks rules before.marking) (waiters before.parked) (behind (wishes before.parked) w) sound.free
       (λ circle. closes (record { wish = w; wants = wants; circle = circle })) (own_none rules before.marking (behind (wishes before.parked) w))));

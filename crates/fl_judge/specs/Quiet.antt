@@ -1,6 +1,6 @@
 -- Histories in which no owner asks for a record lock while it waits for one, and what comes of it.
 use Rattle.std.specs.Prelude.{◌≡◌, ℕ, Bool, false, Option, Some, None, List, ◌∷◌, ◌++◌}
-use Rattle.fl_waiting.specs.Circle.{waiter_of, blocks, waiters, AreInRow}
+use Rattle.fl_waiting.specs.Circle.{waiter_of, blocks, waiters, IsPath}
 use Rattle.fl_core.specs.Stages.{asked_by}
 use Rattle.fl_core.specs.State.{Snapshot, snapshot_of}
 use Rattle.fl_waiting.specs.declared.parked.Request.{Request}
@@ -25,12 +25,12 @@ IsQuiet rules lines =
     → lines ≡ before ++ line.Asked worker order ∷ rest
     → asks_while_waiting (asked_by order.op) (state_after rules before).view.parked ≡ false
 
--- There is no cycle of owners: no row, of one or more, in which each waits for a record lock, and is blocked by the
+-- There is no cycle of owners: no path, of one or more, in which each waits for a record lock, and is blocked by the
 -- next, and the last by the first (POSIX.1-2017 `fcntl`, EDEADLK).
 abbrev pub HasNoCircle : Snapshot → Type 0
 HasNoCircle p =
     (first : ℕ) (others : List ℕ)
-    → AreInRow waiter_of (blocks p.rules p.marking) (waiters p.view.parked) first others first → ⊥
+    → IsPath waiter_of (blocks p.rules p.marking) (waiters p.view.parked) first others first → ⊥
 
 -- There are none after any order of the lines: no beginning of them that is legal under these rules leads to a circle.
 abbrev pub HasNoCircles : Rules → List Line → Type 0

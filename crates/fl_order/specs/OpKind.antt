@@ -24,44 +24,44 @@ all_kinds =
 
 -- the number in a message's header, the word in a trace's line, and the shape of the body; if its messages are no
 -- orders, how they are refused
-pub record Row : Type 0 where
+pub record Signature : Type 0 where
   pub opcode : ℕ
   pub word : List ℕ
   pub shape : Result Shape Refusal
 
--- the row of these three
-abbrev pub row : ℕ → List ℕ → Result Shape Refusal → Row
-row opcode word shape = record { opcode = opcode; word = word; shape = shape }
+-- the signature of these three
+abbrev pub signature : ℕ → List ℕ → Result Shape Refusal → Signature
+signature opcode word shape = record { opcode = opcode; word = word; shape = shape }
 
 -- what is known of a kind
-abbrev pub row_for : OpKind → Row
-row_for Lookup = row 1 (codes "lookup") (Ok shape.Name)
-row_for Forget = row 2 (codes "forget") (Ok shape.Number)
-row_for Getattr = row 3 (codes "getattr") (Ok shape.Getattr)
-row_for Unlink = row 10 (codes "unlink") (Ok shape.Name)
-row_for Open = row 14 (codes "open") (Ok shape.Open)
-row_for Release = row 18 (codes "release") (Ok shape.Release)
-row_for Flush = row 25 (codes "flush") (Ok shape.Flush)
-row_for Init = row 26 (codes "init") (Err (Answer EPROTO))
-row_for Getlk = row 31 (codes "getlk") (Ok shape.Lock)
-row_for Setlk = row 32 (codes "setlk") (Ok shape.Lock)
-row_for Setlkw = row 33 (codes "setlkw") (Ok shape.Lock)
-row_for Create = row 35 (codes "create") (Ok shape.Create)
-row_for Interrupt = row 36 (codes "interrupt") (Ok shape.Number)
-row_for Destroy = row 38 (codes "destroy") (Err Ends)
-row_for BatchForget = row 42 (codes "batch_forget") (Err Silent)
+abbrev pub signature_of : OpKind → Signature
+signature_of Lookup = signature 1 (codes "lookup") (Ok shape.Name)
+signature_of Forget = signature 2 (codes "forget") (Ok shape.Number)
+signature_of Getattr = signature 3 (codes "getattr") (Ok shape.Getattr)
+signature_of Unlink = signature 10 (codes "unlink") (Ok shape.Name)
+signature_of Open = signature 14 (codes "open") (Ok shape.Open)
+signature_of Release = signature 18 (codes "release") (Ok shape.Release)
+signature_of Flush = signature 25 (codes "flush") (Ok shape.Flush)
+signature_of Init = signature 26 (codes "init") (Err (Answer EPROTO))
+signature_of Getlk = signature 31 (codes "getlk") (Ok shape.Lock)
+signature_of Setlk = signature 32 (codes "setlk") (Ok shape.Lock)
+signature_of Setlkw = signature 33 (codes "setlkw") (Ok shape.Lock)
+signature_of Create = signature 35 (codes "create") (Ok shape.Create)
+signature_of Interrupt = signature 36 (codes "interrupt") (Ok shape.Number)
+signature_of Destroy = signature 38 (codes "destroy") (Err Ends)
+signature_of BatchForget = signature 42 (codes "batch_forget") (Err Silent)
 
 -- the number that a message's header has
 abbrev pub opcode_for : OpKind → ℕ
-opcode_for kind = (row_for kind).opcode
+opcode_for kind = (signature_of kind).opcode
 
 -- the word that a trace's line has
 abbrev pub word_for : OpKind → List ℕ
-word_for kind = (row_for kind).word
+word_for kind = (signature_of kind).word
 
 -- the shape of a body; if a message is no order, how it is refused
 abbrev pub shape_for : OpKind → Result Shape Refusal
-shape_for kind = (row_for kind).shape
+shape_for kind = (signature_of kind).shape
 
 -- a kernel waits for no reply to a message of this kind
 abbrev pub is_silent : OpKind → Bool

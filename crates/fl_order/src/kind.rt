@@ -80,7 +80,7 @@ impl OpKind {
     }
 
     // Its word, and the shape of its bodies or how its messages are refused.
-    fn row(self) -> (&'static str, Result<Shape, Refusal>)
+    fn signature(self) -> (&'static str, Result<Shape, Refusal>)
         ensures word { result.0.now ≡ word_for self }
         ensures shape { result.1 ≡ shape_for self }
     {
@@ -107,14 +107,14 @@ impl OpKind {
     pub fn word(self) -> &'static str
         ensures { result.now ≡ word_for self }
     {
-        self.row().0
+        self.signature().0
     }
 
     /// The shape of the bodies of its messages; if they are no orders, how they are refused.
     pub fn shape(self) -> Result<Shape, Refusal>
         ensures { result ≡ shape_for self }
     {
-        self.row().1
+        self.signature().1
     }
 
     /// Whether a kernel waits for no reply to its messages.

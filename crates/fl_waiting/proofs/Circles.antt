@@ -4,7 +4,7 @@ use Rattle.std.proofs.Common.{[], ◌∷◌, ◌++◌, length, map, get_or, refl
 use Rattle.std.specs.List.{Contains}
 use Rattle.std.specs.List.Sorted.{IsPermutation}
 use Rattle.std.proofs.lemmas.List.Sorted.{Contains-permutation, IsPermutation-sym}
-use Rattle.fl_waiting.specs.Circle.{leads, Waits, AreInRow, IsCircle}
+use Rattle.fl_waiting.specs.Circle.{leads, Waits, IsPath, IsCircle}
 
 -- ---- a way without the first request, or by it
 
@@ -88,19 +88,19 @@ module _ {A : Type 0} (owner_of : A → ℕ) (blocks : A → ℕ → Bool) where
   leads_on rs a s q i h k = on rs a s q (stands rs s i) h (leads_directly rs s q k)
 
   module _ (waiting : List A) where
-    abbrev Row : ℕ → List ℕ → ℕ → Type 0
-    Row = AreInRow owner_of blocks waiting
+    abbrev Path : ℕ → List ℕ → ℕ → Type 0
+    Path = IsPath owner_of blocks waiting
 
-    joined : (p : ℕ) (xs : List ℕ) (m : ℕ) (ys : List ℕ) (q : ℕ) → Row p xs m → Row m ys q → Row p (xs ++ m ∷ ys) q
-    joined p [] m ys q w row = (w, row)
-    joined p (x ∷ xs) m ys q w row = (w.0, joined x xs m ys q w.1 row)
+    joined : (p : ℕ) (xs : List ℕ) (m : ℕ) (ys : List ℕ) (q : ℕ) → Path p xs m → Path m ys q → Path p (xs ++ m ∷ ys) q
+    joined p [] m ys q w path = (w, path)
+    joined p (x ∷ xs) m ys q w path = (w.0, joined x xs m ys q w.1 path)
 
     -- what the test says, in words
     Led : A → ℕ → Type 0
-    Led a q = (blocks a q ≡ true) ⊎ ((p : ℕ) × (others : List ℕ) × (blocks a p ≡ true) × Row p others q)
+    Led a q = (blocks a q ≡ true) ⊎ ((p : ℕ) × (others : List ℕ) × (blocks a p ≡ true) × Path p others q)
 
     -- a request of the list waits as its owner
-    as_owner : (r : A) (q : ℕ) → Contains waiting r → Led r q → (others : List ℕ) × Row (owner_of r) others q
+    as_owner : (r : A) (q : ℕ) → Contains waiting r → Led r q → (others : List ℕ) × Path (owner_of r) others q
     unfolding Led
     as_owner r q i (inl h) = ([], record { request = r; among = i; of = refl; blocked = h })
     as_owner r q i (inr w) = (w.0 ∷ w.1, (record { request = r; among = i; of = refl; blocked = w.2 }, w.3))
@@ -117,7 +117,7 @@ module _ {A : Type 0} (owner_of : A → ℕ) (blocks : A → ℕ → Bool) where
         let rest = in_words rs (λ s i. all s (inr i)) in
         ⊎_elim (rest a q) (λ w. both a r q (all r (inl refl)) (rest a (owner_of r) w.0) (rest r q w.1)) (by_two (L rs a q) (L rs a (owner_of r)) (L rs r q) h)
 
-    as_told : (p : ℕ) (others : List ℕ) (a : A) (q : ℕ) → blocks a p ≡ true → Row p others q → leads owner_of blocks waiting a q ≡ true
+    as_told : (p : ℕ) (others : List ℕ) (a : A) (q : ℕ) → blocks a p ≡ true → Path p others q → leads owner_of blocks waiting a q ≡ true
     as_told p [] a q h w =
         on waiting a w.request q (stands waiting w.request w.among)
         (leads_directly waiting a (owner_of w.request) (subst (λ x. blocks a x ≡ true) (sym w.of) h)) (leads_directly waiting w.request q w.blocked)
@@ -130,9 +130,9 @@ module _ {A : Type 0} (owner_of : A → ℕ) (blocks : A → ℕ → Bool) where
     unfolding Led
     circle_words a own = (
       λ h.
-          ⊎_elim (λ e. absurd (cc (e, own))) (λ w. record { first = w.0; others = w.1; blocked = w.2; row = w.3 })
+          ⊎_elim (λ e. absurd (cc (e, own))) (λ w. record { first = w.0; others = w.1; blocked = w.2; path = w.3 })
           (in_words waiting (contains waiting) a (owner_of a) h),
-      λ w. as_told w.first w.others a (owner_of a) w.blocked w.row,
+      λ w. as_told w.first w.others a (owner_of a) w.blocked w.path,
     )
 
     -- the same requests in another order
@@ -140,12 +140,12 @@ module _ {A : Type 0} (owner_of : A → ℕ) (blocks : A → ℕ → Bool) where
       waits_there : (p q : ℕ) → Waits owner_of blocks waiting p q → Waits owner_of blocks others p q
       waits_there p q w = record { request = w.request; among = Contains-permutation waiting others w.request moved w.among; of = w.of; blocked = w.blocked }
 
-      row_there : (p : ℕ) (xs : List ℕ) (q : ℕ) → Row p xs q → AreInRow owner_of blocks others p xs q
-      row_there p [] q w = waits_there p q w
-      row_there p (x ∷ xs) q w = (waits_there p x w.0, row_there x xs q w.1)
+      path_there : (p : ℕ) (xs : List ℕ) (q : ℕ) → Path p xs q → IsPath owner_of blocks others p xs q
+      path_there p [] q w = waits_there p q w
+      path_there p (x ∷ xs) q w = (waits_there p x w.0, path_there x xs q w.1)
 
       pub circle_there : (a : A) → IsCircle owner_of blocks waiting a → IsCircle owner_of blocks others a
-      circle_there a w = record { first = w.first; others = w.others; blocked = w.blocked; row = row_there w.first w.others (owner_of a) w.row }
+      circle_there a w = record { first = w.first; others = w.others; blocked = w.blocked; path = path_there w.first w.others (owner_of a) w.path }
 
 -- a request leads back to its owner through requests in whatever order
 pub leads_moved : {A : Type 0} (owner_of : A → ℕ) (blocks : A → ℕ → Bool) (xs ys : List A) (a : A) → IsPermutation xs ys → blocks a (owner_of a) ≡ false

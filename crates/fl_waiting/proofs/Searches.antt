@@ -5,7 +5,7 @@ use Rattle.std.proofs.Common.{sym, ap, ◌∙◌, subst, arith}
 use Rattle.std.proofs.lemmas.Bool.{cases_eq}
 use Rattle.std.proofs.lemmas.List.{length-map, length-replicate}
 use Rattle.std.proofs.lemmas.List.Sums.{sum_by-set}
-use Rattle.fl_waiting.specs.Circle.{leads, Waits, AreInRow, IsCircle}
+use Rattle.fl_waiting.specs.Circle.{leads, Waits, IsPath, IsCircle}
 use Rattle.fl_waiting.specs.Inside.Searching.{is_set, owners_of, owner_at, IsByOwner, IsReachedByOwner}
 use Rattle.fl_ranges.specs.Conflict.{AreFound}
 use Rattle.std.specs.List.Sorted.{IsNonDecreasing}
@@ -149,8 +149,8 @@ module _ (most : ℕ) (blocks : Wanted → ℕ → Bool) (ws : List Wanted) (ask
         closed_at j l v k m there f g (inr other) =
             or_left _ _ _ (at_place (blocks w) reached new more l m) (so_far.closed j l v k m there (sym (get_or-set_other visited i j true false other) ∙ f) g)
 
-    -- where a row of owners begins
-    place_of : (p : ℕ) (others : List ℕ) (q : ℕ) → AreInRow owner blocks ws p others q → (i : ℕ) × (i < length ws) × (owner_at ws i ≡ p)
+    -- where a path of owners begins
+    place_of : (p : ℕ) (others : List ℕ) (q : ℕ) → IsPath owner blocks ws p others q → (i : ℕ) × (i < length ws) × (owner_at ws i ≡ p)
     place_of p [] q w = (w.among.0, w.among.1, owner_is ws w.among.0 w.request w.among.1 w.among.2 ∙ w.of)
     place_of p (x ∷ others) q w = let v = w.0 in (v.among.0, v.among.1, owner_is ws v.among.0 v.request v.among.1 v.among.2 ∙ v.of)
 
@@ -159,19 +159,19 @@ module _ (most : ℕ) (blocks : Wanted → ℕ → Bool) (ws : List Wanted) (ask
       seen w i h at e =
           all w.among.0 w.among.1 (so_far.by_owner w.among.0 i w.among.1 h (owner_is ws w.among.0 w.request w.among.1 w.among.2 ∙ w.of ∙ sym at) ∙ e)
 
-      no_row : (p : ℕ) (others : List ℕ) (i : ℕ) → i < length ws → owner_at ws i ≡ p → is_set reached i ≡ true
-          → AreInRow owner blocks ws p others (owner asked) → ⊥
-      no_row p [] i h at e w = cc (sym (so_far.clear w.among.0 w.request w.among.1 w.among.2 (seen w i h at e)) ∙ w.blocked)
-      no_row p (x ∷ others) i h at e w =
+      no_path : (p : ℕ) (others : List ℕ) (i : ℕ) → i < length ws → owner_at ws i ≡ p → is_set reached i ≡ true
+          → IsPath owner blocks ws p others (owner asked) → ⊥
+      no_path p [] i h at e w = cc (sym (so_far.clear w.among.0 w.request w.among.1 w.among.2 (seen w i h at e)) ∙ w.blocked)
+      no_path p (x ∷ others) i h at e w =
           let v = w.0 in
           let n = place_of x others (owner asked) w.1 in
-          no_row x others n.0 n.1 n.2 (so_far.closed v.among.0 n.0 v.request v.among.1 n.1 v.among.2 (seen v i h at e)
+          no_path x others n.0 n.1 n.2 (so_far.closed v.among.0 n.0 v.request v.among.1 n.1 v.among.2 (seen v i h at e)
           (ap (blocks v.request) n.2 ∙ v.blocked)) w.1
 
       no_circle : IsCircle owner blocks ws asked → ⊥
       no_circle w =
-          let n = place_of w.first w.others (owner asked) w.row in
-          no_row w.first w.others n.0 n.1 n.2 (so_far.start n.0 n.1 (ap (blocks asked) n.2 ∙ w.blocked)) w.row
+          let n = place_of w.first w.others (owner asked) w.path in
+          no_path w.first w.others n.0 n.1 n.2 (so_far.start n.0 n.1 (ap (blocks asked) n.2 ∙ w.blocked)) w.path
 
       pub ends : blocks asked (owner asked) ≡ false → leads owner blocks ws asked (owner asked) ≡ false
       ends own = only_false (leads owner blocks ws asked (owner asked)) (λ h. no_circle ((circle_words owner blocks ws asked own).0 h))

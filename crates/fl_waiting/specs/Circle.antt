@@ -19,10 +19,10 @@ pub record Waits {A : Type 0} (owner_of : A → ℕ) (blocks : A → ℕ → Boo
   pub blocked : blocks request q ≡ true
 
 -- p waits for the first of these owners, each for the next, and the last one for q
-abbrev pub AreInRow : {A : Type 0} → (A → ℕ) → (A → ℕ → Bool) → List A → ℕ → List ℕ → ℕ → Type 0
-AreInRow owner_of blocks waiting p [] q = Waits owner_of blocks waiting p q
-AreInRow owner_of blocks waiting p (next ∷ others) q =
-    Waits owner_of blocks waiting p next × AreInRow owner_of blocks waiting next others q
+abbrev pub IsPath : {A : Type 0} → (A → ℕ) → (A → ℕ → Bool) → List A → ℕ → List ℕ → ℕ → Type 0
+IsPath owner_of blocks waiting p [] q = Waits owner_of blocks waiting p q
+IsPath owner_of blocks waiting p (next ∷ others) q =
+    Waits owner_of blocks waiting p next × IsPath owner_of blocks waiting next others q
 
 -- the request would wait for an owner who waits, through others or not, for the one who asks
 pub record IsCircle {A : Type 0} (owner_of : A → ℕ) (blocks : A → ℕ → Bool) (waiting : List A) (asked : A)
@@ -30,7 +30,7 @@ pub record IsCircle {A : Type 0} (owner_of : A → ℕ) (blocks : A → ℕ → 
   pub first : ℕ
   pub others : List ℕ
   pub blocked : blocks asked first ≡ true
-  pub row : AreInRow owner_of blocks waiting first others (owner_of asked)
+  pub path : IsPath owner_of blocks waiting first others (owner_of asked)
 
 -- The same as a test: whether a request waits for an owner, through requests of the list or not. It does without the
 -- first of them; or it waits for the owner of the first, and the first for that owner, both without the first.

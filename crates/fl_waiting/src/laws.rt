@@ -12,7 +12,7 @@ ghost use Rattle.fl_ranges.specs.Marking.{Marking};
 
 /// A lock has to wait exactly if an owner blocks it. It, or its request, would close a circle exactly if
 /// such an owner waits for the one who wants it, directly or through others, each of whom waits for the next.
-pub fn a_circle_is_a_row_of_owners_who_wait()
+pub fn a_circle_is_a_path_of_owners_who_wait()
     ensures someone { (rules : Rules) (m : Marking) (older : List Wish) (w : Wish) →
         (is_blocked_by rules anyone m older w ≡ true)
         ↔ ((owner : ℕ) × (is_blocked_by rules (only owner) m older w ≡ true)) }

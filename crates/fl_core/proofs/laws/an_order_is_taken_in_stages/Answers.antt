@@ -5,4 +5,4 @@ pub returns : goal.returns
 returns c =
     let law = c.a_change_counts_where_it_speaks.ensures in
     taken_in_stages (record { others = law.others; class = law.class; unlocked = law.unlocked; cleared = law.cleared })
-    c.a_circle_is_a_row_of_owners_who_wait.ensures.request
+    c.a_circle_is_a_path_of_owners_who_wait.ensures.request

@@ -1,5 +1,5 @@
 use Rattle.fl_waiting.proofs.Wishes.{waits_for_someone, closes_words, deadlock_words}
-use Rattle.fl_waiting.proofs.laws.a_circle_is_a_row_of_owners_who_wait.Goals as goal
+use Rattle.fl_waiting.proofs.laws.a_circle_is_a_path_of_owners_who_wait.Goals as goal
 
 pub returns-clause-someone : goal.returns-clause-someone
 returns-clause-someone c = waits_for_someone
