@@ -29,6 +29,5 @@ mod shared;
 
 pub use board::{Board, CloseFault, OpenFault};
 pub use fl_desk::{HandFault, NoView};
-pub use fl_log::{FreshLog, LogName};
-pub use fl_replica::{Ask, BoardName};
+pub use fl_log::{Ask, BoardName, FreshLog, LogName};
 pub use seat::Seat;

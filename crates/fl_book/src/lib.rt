@@ -9,6 +9,6 @@ pub use fl_core::Rules;
 pub use fl_desk::{Desk, MOST_IN_ROW, NothingOutgoing, Outgoing, ToldLists, Verdict, check, laws};
 pub use fl_history::{History, Journal, Line, Lines, NoJournal};
 pub use fl_judge::quiet;
-pub use fl_replica::Ask;
+pub use fl_log::Ask;
 pub use fl_stream::{Streamed, TraceRoom, Unwritten, WhenWriterFails, write_trace};
 pub use fl_trace::{TraceFault, first_line, has_text, print_trace, read_trace};

@@ -1,6 +1,6 @@
 //! What a log is made of.
 
-use fl_log::Entry;
+use crate::log::Entry;
 use fl_order::Order;
 use logbook::Plain;
 
@@ -31,7 +31,7 @@ pub struct AsAsk;
 
 impl<'a> Plain<Asking<'a>, Ask, u64> for AsAsk {
     ghost use Rattle.std.specs.Prelude.{None};
-    ghost use Rattle.fl_replica.specs.Asks.{ask_of};
+    ghost use Rattle.fl_log.specs.Asks.{ask_of};
 
     ghost ask = { λ asking. ask_of asking.worker asking.order.now };
 

@@ -3,13 +3,13 @@
 ghost use Rattle.std.specs.Prelude.{◌≡◌, ◌↔◌, [], true, Some, IfOk, IfSome, IsSome};
 ghost use Rattle.fl_core.specs.Replies.{own_replies};
 ghost use Rattle.fl_core.specs.Step.{next, replies};
+ghost use Rattle.fl_log.specs.Asks.{present_after};
 ghost use Rattle.fl_order.specs.Order.{only_reads};
-ghost use Rattle.fl_replica.specs.Asks.{present_after};
 
 use crate::ask::Ask;
-use crate::name::BoardName;
+use crate::beginning::Beginning;
+use crate::board_name::BoardName;
 use fl_core::{Core, Rules, Tolds};
-use fl_log::Beginning;
 use fl_order::{Answer, Errno, NoMemory, Order};
 use left_right::{Absorb, ReadHandle};
 use std::alloc::{AllocError, Global};
@@ -29,7 +29,7 @@ impl<L: BoardName> Model for Update<L> {
     ghost use Rattle.std.specs.Prelude.{◌≡◌, IfSome};
     ghost use Rattle.fl_core.specs.Replies.{own_replies};
     ghost use Rattle.fl_core.specs.Step.{next, replies};
-    ghost use Rattle.fl_replica.specs.Asks.{Extension, present_after};
+    ghost use Rattle.fl_log.specs.Asks.{Extension, present_after};
 
     ghost Value = { Extension };
 
@@ -73,8 +73,8 @@ pub struct Replica<L: BoardName> {
 impl<L: BoardName> Model for Replica<L> {
     ghost use Rattle.std.specs.Prelude.{◌≡◌, List};
     ghost use Rattle.fl_core.specs.Tolds.{HasRoom};
-    ghost use Rattle.fl_replica.specs.declared.ask.Ask.{Ask};
-    ghost use Rattle.fl_replica.specs.Asks.{present_after};
+    ghost use Rattle.fl_log.specs.declared.ask.Ask.{Ask};
+    ghost use Rattle.fl_log.specs.Asks.{present_after};
 
     ghost Value = { List Ask };
 
@@ -121,7 +121,7 @@ impl<L: BoardName> Replica<L> {
 }
 
 impl<L: BoardName> Absorb<Update<L>> for Replica<L> {
-    ghost use Rattle.fl_replica.specs.Inside.Updates.{extended};
+    ghost use Rattle.fl_log.specs.Inside.Updates.{extended};
 
     type State = Beginning<L, Ask>;
 

@@ -1,7 +1,7 @@
 use Rattle.std.proofs.Common.{◌∙◌, ap, sym, arith}
-use Rattle.fl_replica.specs.Asks.{present_after}
+use Rattle.fl_log.specs.Asks.{present_after}
 use Rattle.fl_core.specs.State.{Snapshot, opening, snapshot_of}
-use Rattle.fl_replica.proofs.replica.Replica.new.Goals as goal
+use Rattle.fl_log.proofs.replica.Replica.new.Goals as goal
 
 pub invariant_of-result : goal.invariant_of-result
 invariant_of-result g c =
