@@ -1,4 +1,4 @@
-use Rattle.fl_board_tests.proofs.tests.threaded.pool.history_of.Given as goal
+use Rattle.fl_book_tests.proofs.tests.board.threaded.pool.history_of.Given as goal
 
 abbrev pub ghosts-closed-L-BoardName : goal.ghosts-closed-L-BoardName
 ghosts-closed-L-BoardName g a = record { workers = a.blank.parts; rules = a.rules }

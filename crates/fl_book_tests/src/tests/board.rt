@@ -1,4 +1,4 @@
-//! Tests of a board and of looks, by what is public of it.
+//! A board, and what its seats are shown.
 
 ghost use Rattle.std.specs.Prelude.{◌≡◌, ◌<◌, ◌≤◌, true};
 ghost use Rattle.fl_core.specs.Tolds.{HasRoom};
@@ -8,10 +8,8 @@ mod looks;
 mod rows;
 mod threaded;
 
-use fl_board::{Ask, Board, BoardName, FreshLog, Seat};
-use fl_core::{Rules, Tolds};
-use fl_desk::{Verdict, check};
-use fl_history::{History, Lines};
+use fl_book::{Ask, Board, BoardName, FreshLog, History, Lines, Rules, Seat, Verdict, check};
+use fl_core::Tolds;
 use fl_order::{Answer, Errno, LockAsk, Name, Op, Order};
 use std::alloc::Global;
 use std::process::Abort;

@@ -5,10 +5,8 @@ ghost use Rattle.fl_core.specs.Tolds.{HasRoom};
 
 use super::super::{create, is_judged, new_tolds, order, see, take};
 use super::{rounds, watched};
-use fl_board::{Ask, Board, BoardName, FreshLog, Seat};
-use fl_core::{Rules, Tolds};
-use fl_desk::Verdict;
-use fl_history::History;
+use fl_book::{Ask, Board, BoardName, FreshLog, History, Rules, Seat, Verdict};
+use fl_core::Tolds;
 use fl_order::{Op, Order};
 use std::alloc::Global;
 use std::marker::Brand;

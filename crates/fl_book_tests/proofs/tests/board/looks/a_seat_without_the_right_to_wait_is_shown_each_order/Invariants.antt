@@ -1,4 +1,4 @@
-use Rattle.fl_board_tests.proofs.tests.looks.a_seat_without_the_right_to_wait_is_shown_each_order.Given as goal
+use Rattle.fl_book_tests.proofs.tests.board.looks.a_seat_without_the_right_to_wait_is_shown_each_order.Given as goal
 
 abbrev pub ghosts-shown_each-L-BoardName : goal.ghosts-shown_each-L-BoardName
 ghosts-shown_each-L-BoardName g a = record { workers = a.blank.parts; rules = a.rules }

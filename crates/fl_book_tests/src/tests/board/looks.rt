@@ -4,9 +4,8 @@ ghost use Rattle.std.specs.Prelude.{◌≡◌};
 ghost use Rattle.fl_core.specs.Tolds.{HasRoom};
 
 use super::{closed, create, has_lines, new_tolds, opened, order, take, upto};
-use fl_board::{Ask, Board, BoardName, FreshLog, Seat};
-use fl_core::{Rules, Tolds};
-use fl_history::History;
+use fl_book::{Ask, Board, BoardName, FreshLog, History, Rules, Seat};
+use fl_core::Tolds;
 use fl_order::{Answer, Op};
 use std::alloc::Global;
 use std::marker::Brand;

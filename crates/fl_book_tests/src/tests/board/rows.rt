@@ -4,10 +4,8 @@ ghost use Rattle.std.specs.Prelude.{◌≡◌, ◌<◌, ◌≤◌, ◌+◌};
 ghost use Rattle.fl_core.specs.Tolds.{HasRoom};
 
 use super::{closed, has_lines, new_tolds, opened, order};
-use fl_board::{Ask, Board, BoardName, FreshLog, Seat};
-use fl_core::{Rules, Tolds};
-use fl_desk::{NothingOutgoing, ToldLists};
-use fl_history::History;
+use fl_book::{Ask, Board, BoardName, FreshLog, History, NothingOutgoing, Rules, Seat, ToldLists};
+use fl_core::Tolds;
 use fl_order::{Op, Order};
 use std::alloc::Global;
 use std::marker::Brand;
