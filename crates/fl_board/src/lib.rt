@@ -15,7 +15,7 @@
 //!   publishes for each order;
 //! - one that waits for its lines, or sends what is outgoing, under the lock, or waits while something is outgoing;
 //! - a `hand_in` or `hand_in_all` that ends publication as if memory had run out: then every later look is `NoView`.
-//! `fl_board_tests` refuses these, the last by `a_seat_without_the_right_to_wait_is_shown_each_order`; how one waits
+//! `fl_book_tests` refuses these, the last by `a_seat_without_the_right_to_wait_is_shown_each_order`; how one waits
 //! for its lines is seen by `tests/serve/traces.py` alone. Nothing sees a `hand_in_all` that stores its lines only once it
 //! has let the lock go, so that others may take orders in between.
 #![tactic(auto)]
@@ -29,6 +29,5 @@ mod shared;
 
 pub use board::{Board, CloseFault, OpenFault};
 pub use fl_desk::{HandFault, NoView};
-pub use fl_log::{FreshLog, LogName};
-pub use fl_replica::{Ask, BoardName};
+pub use fl_log::{Ask, BoardName, FreshLog, LogName};
 pub use seat::Seat;

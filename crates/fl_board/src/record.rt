@@ -8,17 +8,18 @@ ghost use Rattle.fl_core.specs.Tolds.{HasRoom};
 ghost use Rattle.fl_desk.specs.Legal.{IsLegal, LeavesLawful, orders_asked};
 ghost use Rattle.fl_desk.specs.Stored.{IsStored};
 ghost use Rattle.fl_log.specs.Longer.{IsLonger};
-ghost use Rattle.fl_replica.specs.Asks.{ask_of};
-ghost use Rattle.fl_replica.specs.declared.ask.Ask.{Ask as Handed};
+ghost use Rattle.fl_log.specs.Asks.{ask_of};
+ghost use Rattle.fl_log.specs.declared.ask.Ask.{Ask as Handed};
 
 use crate::asks::asks_lead;
 use crate::seat::Seat;
 use fl_core::{Rules, Tolds};
 use fl_desk::{Desk, HandFault, MOST_IN_ROW, ToldLists};
 use fl_history::Journal;
-use fl_log::{Beginning, FreshLog, Log, MOST_ENTRIES};
+use fl_log::{
+    AsAsk, Ask, Asking, Beginning, BoardName, FreshLog, Log, MOST_ENTRIES, ReplicaWriter,
+};
 use fl_order::{NoMemory, Order};
-use fl_replica::{AsAsk, Ask, Asking, BoardName, ReplicaWriter};
 use std::alloc::Global;
 use std::marker::Model;
 use std::sync::Wait;
@@ -40,7 +41,7 @@ impl<L: BoardName, R: Wait + Drop, J: Journal> Model for Record<L, R, J> {
     ghost use Rattle.std.specs.Prelude.{◌≡◌};
     ghost use Rattle.fl_board.specs.Inside.Asks.{history_of};
     ghost use Rattle.fl_desk.specs.Legal.{orders_asked};
-    ghost use Rattle.fl_replica.specs.Asks.{Publication, present_after};
+    ghost use Rattle.fl_log.specs.Asks.{Publication, present_after};
 
     ghost Value = { Publication };
 

@@ -16,9 +16,8 @@ use crate::seat::Seat;
 use fl_core::{Rules, Tolds};
 use fl_desk::{HandFault, NoView, ToldLists};
 use fl_history::Journal;
-use fl_log::{Beginning, FreshLog};
+use fl_log::{Ask, Beginning, BoardName, FreshLog};
 use fl_order::{NoMemory, Order};
-use fl_replica::{Ask, BoardName};
 use std::alloc::Global;
 use std::marker::Model;
 use std::sync::Wait;
@@ -36,7 +35,7 @@ impl<L: BoardName, R: Wait + Drop, J: Journal> Model for Shared<L, R, J> {
     ghost use Rattle.std.specs.Prelude.{◌≡◌, IfSome, List};
     ghost use Rattle.fl_board.specs.Inside.Asks.{history_of};
     ghost use Rattle.fl_desk.specs.Stored.{IsStored};
-    ghost use Rattle.fl_replica.specs.declared.ask.Ask.{Ask};
+    ghost use Rattle.fl_log.specs.declared.ask.Ask.{Ask};
 
     ghost Value = { List Ask };
 

@@ -1,5 +1,21 @@
-//! The book of the lock directory: the names of the desk, the judges, their rules, the board, the journals of lines
-//! and the text of a history in one place.
+//! The public face for library users: what takes orders, the history that it records, and what is said of a history.
+//! Nothing of the program uses this crate.
+//!
+//! One imports from it:
+//! - what takes orders: `Desk`, for one caller at a time; `Board` with its `Seat`s, for several threads; `Rules`, by
+//!   which requests wait;
+//! - for boards, what names one (`BoardName`, `LogName`, `FreshLog`, `Ask`), what it says in place of an answer
+//!   (`OpenFault`, `HandFault`, `NoView`, `CloseFault`), and what a row of orders needs (`MOST_IN_ROW`, `ToldLists`,
+//!   `Outgoing`, `NothingOutgoing`);
+//! - where lines go, a `Journal`: `Lines`, `NoJournal`, or `Streamed` with `WhenWriterFails`;
+//! - `History` and its `Line`s; its text by `read_trace`, `print_trace`, `write_trace`, `first_line` and `has_text`,
+//!   with `TraceRoom`, `TraceFault` and `Unwritten`;
+//! - what is said of a history: `check` with its `Verdict`, `quiet`, and the laws in `laws`.
+//!
+//! An `Order` is imported from `fl_order`, and `Tolds`, the room for replies, from `fl_core`.
+//!
+//! For example, `Desk::new(alloc, Rules::standard())` makes a desk, whose `take` answers an order, and of what its
+//! `into_history` gives `check` says `Verdict::Legal`.
 #![tactic(auto)]
 
 pub use fl_board::{
@@ -9,6 +25,6 @@ pub use fl_core::Rules;
 pub use fl_desk::{Desk, MOST_IN_ROW, NothingOutgoing, Outgoing, ToldLists, Verdict, check, laws};
 pub use fl_history::{History, Journal, Line, Lines, NoJournal};
 pub use fl_judge::quiet;
-pub use fl_replica::Ask;
+pub use fl_log::Ask;
 pub use fl_stream::{Streamed, TraceRoom, Unwritten, WhenWriterFails, write_trace};
 pub use fl_trace::{TraceFault, first_line, has_text, print_trace, read_trace};

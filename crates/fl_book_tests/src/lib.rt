@@ -1,4 +1,5 @@
-//! Tests of the book: each public call of a desk, its history, the judge and the text, by the names of `fl_book`.
+//! Tests of the public face of the book, by the names of `fl_book`: a board with its seats, and each public call of a
+//! desk, its history, the judge and the text.
 #![tactic(auto)]
 
 #[cfg(test)]

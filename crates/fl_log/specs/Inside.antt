@@ -1,2 +1,4 @@
--- The word of a log. No contract of a public function cites these definitions.
+-- The word of a log; what an update does to a copy, and what is published in the end.
+-- No contract of a public function cites these definitions.
 pub mod Counting
+pub mod Updates

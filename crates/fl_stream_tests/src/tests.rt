@@ -1,9 +1,11 @@
-//! What a stream is handed, and what its writer holds then.
+//! What is written by a journal, an outbox or a command, and what its writer holds then.
 
+mod commands;
 mod often;
 mod printing;
 mod refused;
 mod refusing;
+mod replies;
 mod storing;
 
 use fl_history::{History, Journal, Line};

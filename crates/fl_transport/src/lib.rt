@@ -5,7 +5,7 @@
 //! show that a read or a write failed if that is reported, and that none is tried again. Contracts let through:
 //! - an `Outbox::send` that is broken at once, and an `Inbox::fill` that tells a failed read though none failed;
 //! - a `ReplyBuffer` with room for one reply alone, so that replies go out one by one.
-//! `tests/serve/sessions.py`, `tests/serve/failing.py` and `fl_session_tests` (an outbox alone) refuse these.
+//! `tests/serve/sessions.py`, `tests/serve/failing.py` and `fl_stream_tests` (an outbox alone) refuse these.
 #![tactic(auto)]
 
 mod fault;

@@ -11,9 +11,9 @@ use Rattle.fl_desk.specs.Verdicts.{DiffersAt, IsBeginning}
 use Rattle.fl_history.specs.declared.history.Line.{Line}
 use Rattle.fl_judge.specs.First.{AreFirstLines, IsSoOfAll}
 use Rattle.fl_judge.specs.Present.{IsPresent}
-use Rattle.fl_lock_text.specs.Json.{json_text}
-use Rattle.fl_lock_text.specs.Table.{table_text}
+use Rattle.fl_locks.specs.Json.{json_text}
 use Rattle.fl_locks.specs.LockRows.{linked_name, rows_of}
+use Rattle.fl_locks.specs.Table.{table_text}
 use Rattle.fl_locks.specs.declared.row.LockRow.{LockRow}
 use Rattle.fl_waiting.specs.declared.rules.Rules.{Rules}
 use Rattle.lockd_commands.specs.declared.locks.LocksOptions.{LocksOptions}

@@ -11,11 +11,11 @@
 //! - a `drive_on` that prints replies which didn't come from the socket (`try_stored_replies` in `tests/serve/sockets.py`);
 //! - one that says another reason why it isn't connected, or none (`tests/commands/words.py`).
 //!
-//! The test of `lockd_commands_tests`, and the scripts of `tests/commands`, `tests/locks` and `tests/serve` refuse
+//! `fl_stream_tests`, and the scripts of `tests/commands`, `tests/locks` and `tests/serve` refuse
 //! these.
 //!
 //! After `write failed` the output holds a beginning of what was to be printed. No contract says how long it is. If
-//! only the flush failed, it is all: `an_output_that_fails_when_it_is_flushed` in `lockd_commands_tests` sees that of
+//! only the flush failed, it is all: `an_output_that_fails_when_it_is_flushed` in `fl_stream_tests` sees that of
 //! `script`, `check` and `bytes`.
 #![tactic(auto)]
 

@@ -8,7 +8,7 @@
 //! - a `tell` that tells nothing;
 //! - a `Noting` that keeps another reason;
 //! - a `Watched`, a `Kept` or a `tell_streams` that says anything else, or says it without `--verbose`.
-//! `lockd_commands_tests` and the scripts of `tests/commands` refuse these.
+//! `fl_stream_tests` and the scripts of `tests/commands` refuse these.
 #![tactic(auto)]
 
 mod bad_line;

@@ -3,7 +3,7 @@ use Rattle.fl_board.proofs.Refusing.{short_of_first, short_of_second}
 use Rattle.fl_board.specs.Inside.Asks.{history_of}
 use Rattle.fl_board.specs.Refused.{BeginsWith}
 use Rattle.fl_board.specs.Seats.{Place}
-use Rattle.fl_replica.specs.declared.ask.Ask.{Ask}
+use Rattle.fl_log.specs.declared.ask.Ask.{Ask}
 use Rattle.std.specs.Prelude.{List}
 use Rattle.fl_board.proofs.shared.Shared.meet.Goals.{then-not-begins-via-then-not-begins, then-not-begins-via-else-not-begins+then-not-begins-2}
 use Rattle.fl_board.proofs.shared.Shared.meet.Goals as goal

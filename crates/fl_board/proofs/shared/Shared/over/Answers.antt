@@ -1,6 +1,6 @@
 use Rattle.std.proofs.Common.{◌≡◌, [], ◌∙◌, ap, refl}
 use Rattle.fl_board.proofs.Storing.{none_stored}
-use Rattle.fl_replica.specs.Asks.{Publication}
+use Rattle.fl_log.specs.Asks.{Publication}
 use Rattle.fl_board.proofs.shared.Shared.over.Goals as goal
 
 pub invariant_of-result : goal.invariant_of-result

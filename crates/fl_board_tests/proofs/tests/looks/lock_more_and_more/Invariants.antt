@@ -1,5 +1,0 @@
-use Rattle.fl_core.specs.Tolds.{HasRoom}
-use Rattle.fl_board_tests.proofs.tests.looks.lock_more_and_more.Given as goal
-
-abbrev pub invariant-loop-last : goal.invariant-loop-last
-invariant-loop-last g l = HasRoom g.L.BoardName.rules l.tolds

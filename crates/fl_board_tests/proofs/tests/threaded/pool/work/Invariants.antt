@@ -1,5 +1,0 @@
-use Rattle.fl_core.specs.Tolds.{HasRoom}
-use Rattle.fl_board_tests.proofs.tests.threaded.pool.work.Given as goal
-
-abbrev pub invariant-loop-round : goal.invariant-loop-round
-invariant-loop-round g l = HasRoom g.L.BoardName.rules l.tolds

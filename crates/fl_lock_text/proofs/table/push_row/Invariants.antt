@@ -1,9 +1,0 @@
-use Rattle.std.proofs.Common.{◌≡◌, ◌++◌, take, string_bytes}
-use Rattle.std.specs.List.{flat_map}
-use Rattle.fl_lock_text.specs.Cells.{cell_text}
-use Rattle.fl_lock_text.specs.Table.{inner_text}
-use Rattle.fl_lock_text.proofs.table.push_row.Given as goal
-
--- the cells so far are written
-abbrev pub invariant-loop-sized : goal.invariant-loop-sized
-invariant-loop-sized l = string_bytes l.text ≡ string_bytes l.initial.text ++ flat_map (inner_text (λ column. cell_text column l.row)) (take l.sized-index l.columns)

@@ -1,5 +1,0 @@
-pub mod Cells
-pub mod Json
-pub mod Names
-pub mod Table
-pub mod Words
