@@ -219,7 +219,7 @@ fn close_board<L: BoardName, R: Wait + Drop, J: Journal + Drop>(
     ensures back { IsSome result.journal ⊎ (result.fault ≡ Some Fault.NoReader) }
     ensures untold { fault ≢ Some Fault.NoReader → result.fault ≡ Some Fault.NoReader → result.journal ≡ None }
 {
-    match board.into_kept(seats) {
+    match board.into_journal(seats) {
         Ok(journal) if known => Recorded {
             journal: Some(journal),
             fault,
