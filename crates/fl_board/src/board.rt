@@ -103,7 +103,7 @@ impl<L: BoardName, R: Wait + Drop, J: Journal> Board<L, R, J> {
     pub fn over(
         alloc: Global,
         rt: R,
-        kept: J,
+        journal: J,
         blank: Blank,
         log: FreshLog<Ask>,
         workers: u32,
@@ -111,7 +111,7 @@ impl<L: BoardName, R: Wait + Drop, J: Journal> Board<L, R, J> {
     ) -> Result<(Board<L, R, J>, Vec<Seat<L>>), OpenFault>
     where
         J: Drop,
-        requires none { J.lines kept ≡ [] }
+        requires none { J.lines journal ≡ [] }
         requires named { (blank.name ≡ L.name) × (blank.parts ≡ L.parts) }
         requires log { log ≡ L.log }
         requires parts { (workers ≡ L.parts) × (L.workers ≡ L.parts) }
@@ -122,7 +122,7 @@ impl<L: BoardName, R: Wait + Drop, J: Journal> Board<L, R, J> {
             All (λ seat. (seat.count ≡ 0) × (seat.own ≡ []) × (seat.seen ≡ [])) made.1.items) }
     {
         let (book, rest) = blank.open::<L>();
-        let shared = Shared::over(alloc, rt, kept, book, log, workers as usize, rules)?;
+        let shared = Shared::over(alloc, rt, journal, book, log, workers as usize, rules)?;
         let seats = seats_of(
             alloc,
             &shared.record.writer,
@@ -158,7 +158,7 @@ impl<L: BoardName, R: Wait + Drop, J: Journal> Board<L, R, J> {
         let (taken, stored) = {
             let mut shared = self.shared.lock(rt);
             let taken = shared.hand_in(seat, order, tolds);
-            let stored = taken.is_err() || shared.store(seat);
+            let stored = taken.is_err() || shared.store_if_due(seat);
             (taken, stored)
         };
         if !stored {
@@ -194,7 +194,7 @@ impl<L: BoardName, R: Wait + Drop, J: Journal> Board<L, R, J> {
         let (taken, stored) = {
             let mut shared = self.shared.lock(rt);
             let taken = shared.hand_in_all(seat, orders, tolds, lists);
-            let stored = lists.count() == 0 || shared.store(seat);
+            let stored = lists.count() == 0 || shared.store_if_due(seat);
             (taken, stored)
         };
         if !stored {
@@ -222,7 +222,7 @@ impl<L: BoardName, R: Wait + Drop, J: Journal> Board<L, R, J> {
         ensures { IsTrue result → IsStored J.stored seat.now.own }
     {
         let mut shared = self.shared.lock(rt);
-        shared.store(seat)
+        shared.store_if_due(seat)
     }
 
     /// As `Seat::look`: it needs nothing of the board but what is published.
@@ -252,7 +252,7 @@ impl<L: BoardName, R: Wait + Drop, J: Journal> Board<L, R, J> {
         shared.meet(one, other)
     }
 
-    /// Flushes the journal of its lines: a worker has no order at hand. No line, lock, count or seat changes.
+    /// Stores all its lines: a worker has no order at hand. No line, lock, count or seat changes.
     pub fn pause<W: Wait>(&self, rt: &W) {
         let mut shared = self.shared.lock(rt);
         shared.pause();
@@ -261,12 +261,13 @@ impl<L: BoardName, R: Wait + Drop, J: Journal> Board<L, R, J> {
     /// The journal of its lines, which are the history of all that was handed in, if no seat is missing. It is
     /// legal under the board's rules, and no two owners have conflicting locks after it. It begins with all that was
     /// handed in and shown through each seat, and has as many orders of each worker as its seat's count.
-    pub fn into_kept(self, seats: Vec<Seat<L>>) -> Result<J, CloseFault<L, R, J>>
+    pub fn into_journal(self, seats: Vec<Seat<L>>) -> Result<J, CloseFault<L, R, J>>
         requires { L.workers ≡ L.parts }
-        ensures legal { IfOk result (λ kept. IsLegal L.rules (J.lines kept)) }
-        ensures lawful { IfOk result (λ kept. LeavesLawful L.rules (J.lines kept)) }
-        ensures counted { IfOk result (λ kept. orders_asked (J.lines kept) ≡ sum_by (λ seat. seat.count) seats.items) }
-        ensures each { IfOk result (λ kept. All (λ seat. HasAllOf (J.lines kept) seat) seats.items) }
+        ensures legal { IfOk result (λ journal. IsLegal L.rules (J.lines journal)) }
+        ensures lawful { IfOk result (λ journal. LeavesLawful L.rules (J.lines journal)) }
+        ensures counted { IfOk result (λ journal.
+            orders_asked (J.lines journal) ≡ sum_by (λ seat. seat.count) seats.items) }
+        ensures each { IfOk result (λ journal. All (λ seat. HasAllOf (J.lines journal) seat) seats.items) }
         ensures apart { IfOk result (λ _. AreApart seats.items) }
         ensures not_all { (result ≡ Err (CloseFault.NotAll self seats)) ↔ (length seats.items < L.workers) }
         ensures back { IfErr result (λ fault. (fault ≡ CloseFault.NotAll self seats)
@@ -288,7 +289,7 @@ impl<L: BoardName, R: Wait + Drop, J: Journal> Board<L, R, J> {
         let Some(mut whole) = merged(seats) else {
             unreachable!();
         };
-        Ok(shared.into_kept(&mut whole))
+        Ok(shared.into_journal(&mut whole))
     }
 }
 
@@ -329,7 +330,7 @@ impl<L: BoardName, R: Wait + Drop> Board<L, R> {
         ensures back { IfErr result (λ fault. (fault ≡ CloseFault.NotAll self seats)
             ⊎ ((board : _) × (fault ≡ CloseFault.NoView board seats) × CantClose L.rules seats.items)) }
     {
-        match self.into_kept(seats) {
+        match self.into_journal(seats) {
             Ok(lines) => Ok(History::of(lines)),
             Err(fault) => Err(fault),
         }

@@ -3,7 +3,7 @@
 //! `hand_in`, `hand_in_all`, `meet` and `pause` wait for the lock. `hand_in` and `hand_in_all` also wait, without the
 //! lock, until what they took is stored, if its journal has it that replies wait for their lines. A publication, and
 //! letting the writer go, wait for readers of a replica: so `new`, `over`, `hand_in`, `hand_in_all`, `close` and
-//! `into_kept` may wait too. In all but `hand_in` and `hand_in_all` nobody reads then, as their code shows.
+//! `into_journal` may wait too. In all but `hand_in` and `hand_in_all` nobody reads then, as their code shows.
 //! `Board::look` counts as a call that may wait, since it is given a board. `Seat::look` has no right to wait.
 //!
 //! No contract says what `pause` does, nor that a call which waits for the lock or for lines returns. Callers don't see

@@ -56,7 +56,7 @@ impl<L: BoardName, R: Wait + Drop, J: Journal> Record<L, R, J> {
     pub(crate) fn over(
         alloc: Global,
         rt: R,
-        kept: J,
+        journal: J,
         ledger: Book<L>,
         log: FreshLog<Ask>,
         readers: usize,
@@ -64,7 +64,7 @@ impl<L: BoardName, R: Wait + Drop, J: Journal> Record<L, R, J> {
     ) -> Result<Record<L, R, J>, NoMemory>
     where
         J: Drop,
-        requires none { J.lines kept ≡ [] }
+        requires none { J.lines journal ≡ [] }
         requires ledger { ledger.total ≡ 0 }
         requires log { log ≡ L.log }
         requires readers { (0 < readers) × (readers < 2 ^ 32) }
@@ -74,7 +74,7 @@ impl<L: BoardName, R: Wait + Drop, J: Journal> Record<L, R, J> {
         let (log, all) = log.named::<L>();
         let writer = ReplicaWriter::new(alloc, rt, &all, readers, MOST_IN_ROW, rules)?;
         Ok(Record {
-            desk: Desk::over(alloc, kept, rules)?,
+            desk: Desk::over(alloc, journal, rules)?,
             book: ledger,
             log,
             all,
@@ -173,22 +173,22 @@ impl<L: BoardName, R: Wait + Drop, J: Journal> Record<L, R, J> {
 
     /// Stores the desk's lines if they must be stored before replies leave, and says whether that is so.
     #[tactic(auto, using(crate::proofs::Storing::same_stored))]
-    pub(crate) fn store(&mut self) -> bool
+    pub(crate) fn store_if_due(&mut self) -> bool
         ensures same { self.new ≡ self.old }
         ensures stored { IsTrue result → IsStored J.stored (history_of L.rules self.new.asks) }
     {
-        self.desk.store()
+        self.desk.store_if_due()
     }
 
-    /// Flushes the desk's journal: no order is at hand.
+    /// Stores all lines of the desk: no order is at hand.
     pub(crate) fn pause(&mut self)
         ensures { self.new ≡ self.old }
     {
-        let _ = self.desk.flush();
+        let _ = self.desk.store_all();
     }
 
     /// The desk's journal, for the whole of the ledger.
-    pub(crate) fn into_kept(self, whole: &mut Share<L>) -> J
+    pub(crate) fn into_journal(self, whole: &mut Share<L>) -> J
         requires { whole.old.parts ≡ L.parts }
         ensures lines { J.lines result ≡ history_of L.rules self.asks }
         ensures legal { IsLegal L.rules (J.lines result) }
@@ -204,7 +204,7 @@ impl<L: BoardName, R: Wait + Drop, J: Journal> Record<L, R, J> {
         } = self;
         asks_lead();
         book.audit(whole);
-        desk.into_kept()
+        desk.into_journal()
     }
 }
 

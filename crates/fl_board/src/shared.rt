@@ -51,7 +51,7 @@ impl<L: BoardName, R: Wait + Drop, J: Journal> Shared<L, R, J> {
     pub(crate) fn over(
         alloc: Global,
         rt: R,
-        kept: J,
+        journal: J,
         ledger: Book<L>,
         log: FreshLog<Ask>,
         readers: usize,
@@ -59,14 +59,14 @@ impl<L: BoardName, R: Wait + Drop, J: Journal> Shared<L, R, J> {
     ) -> Result<Shared<L, R, J>, NoMemory>
     where
         J: Drop,
-        requires none { J.lines kept ≡ [] }
+        requires none { J.lines journal ≡ [] }
         requires ledger { ledger.total ≡ 0 }
         requires log { log ≡ L.log }
         requires readers { (0 < readers) × (readers < 2 ^ 32) }
         requires rules { rules ≡ L.rules }
         ensures { IfOk result (λ shared. shared ≡ []) }
     {
-        let record = Record::over(alloc, rt, kept, ledger, log, readers, rules)?;
+        let record = Record::over(alloc, rt, journal, ledger, log, readers, rules)?;
         let stored = record.all.again();
         Ok(Shared { record, stored })
     }
@@ -86,7 +86,7 @@ impl<L: BoardName, R: Wait + Drop, J: Journal> Shared<L, R, J> {
         ensures all { OnOk result (history_of L.rules self.new ≡ seat.new.own) }
         ensures refused { OnErr result ((seat.new ≡ seat.old) × (tolds.new ≡ tolds.old) × (self.new ≡ self.old)) }
     {
-        if !self.store_all() {
+        if !self.store_waiting() {
             return Err(HandFault::NoMemory);
         }
         self.record.take(seat, order, tolds)?;
@@ -111,7 +111,7 @@ impl<L: BoardName, R: Wait + Drop, J: Journal> Shared<L, R, J> {
         ensures some { OnOk result (0 < length orders.now → 0 < length lists.new.lists) }
         ensures refused { OnErr result (length lists.new.lists < length orders.now) }
     {
-        if !self.store_all() && !orders.is_empty() {
+        if !self.store_waiting() && !orders.is_empty() {
             lists.clear();
             return Err(HandFault::NoMemory);
         }
@@ -153,26 +153,26 @@ impl<L: BoardName, R: Wait + Drop, J: Journal> Shared<L, R, J> {
     /// Stores the desk's lines if they must be stored before replies leave, and says whether all that was handed in
     /// through a seat is stored.
     #[tactic(auto, using(crate::proofs::Storing::front_stored))]
-    pub(crate) fn store(&mut self, seat: &Seat<L>) -> bool
+    pub(crate) fn store_if_due(&mut self, seat: &Seat<L>) -> bool
         ensures same { self.new ≡ self.old }
         ensures stored { IsTrue result → IsStored J.stored seat.now.own }
     {
-        let _ = self.store_all();
+        let _ = self.store_waiting();
         seat.is_in(&self.stored)
     }
 
     // Stores the desk's lines, if some wait that must be stored before replies leave. It says whether none is left.
     #[tactic(auto, using(crate::proofs::Storing::same_stored))]
-    fn store_all(&mut self) -> bool
+    fn store_waiting(&mut self) -> bool
         ensures { self.new ≡ self.old }
     {
-        if !self.stored.is(&self.record.all) && self.record.store() {
+        if !self.stored.is(&self.record.all) && self.record.store_if_due() {
             self.stored = self.record.all.again();
         }
         self.stored.is(&self.record.all)
     }
 
-    /// Flushes the desk's journal: no order is at hand.
+    /// Stores all lines of the desk: no order is at hand.
     pub(crate) fn pause(&mut self)
         ensures { self.new ≡ self.old }
     {
@@ -180,7 +180,7 @@ impl<L: BoardName, R: Wait + Drop, J: Journal> Shared<L, R, J> {
     }
 
     /// The desk's journal, for the whole of the ledger.
-    pub(crate) fn into_kept(self, whole: &mut Share<L>) -> J
+    pub(crate) fn into_journal(self, whole: &mut Share<L>) -> J
         requires { whole.old.parts ≡ L.parts }
         ensures lines { J.lines result ≡ history_of L.rules self }
         ensures legal { IsLegal L.rules (J.lines result) }
@@ -191,7 +191,7 @@ impl<L: BoardName, R: Wait + Drop, J: Journal> Shared<L, R, J> {
             record,
             stored: _stored,
         } = self;
-        record.into_kept(whole)
+        record.into_journal(whole)
     }
 }
 

@@ -97,7 +97,7 @@ pub(crate) fn set_or_wait(
     let key = key_of(node, ask);
     let mark = mark_of(ask);
     if !is_blocked(rules, locks, parked, &key, &range, mark) {
-        return Some(store(locks, &key, &range, mark));
+        return Some(set_range(locks, &key, &range, mark));
     }
     if is_deadlock(rules, locks, parked, &key, &range, mark) {
         return Some(Err(Errno::EDEADLK));
@@ -171,7 +171,7 @@ fn change(locks: &mut Table, key: &Key, range: &Range, mark: Option<Mark>) -> Re
     if conflicts_with_held(locks, key, range, mark) {
         return Err(Errno::EAGAIN);
     }
-    store(locks, key, range, mark)
+    set_range(locks, key, range, mark)
 }
 
 /// Whether a lock that is held keeps this one from being set.
@@ -189,8 +189,8 @@ pub(crate) fn conflicts_with_held(
     }
 }
 
-/// The same, but it tests no conflict.
-pub(crate) fn store(
+/// The bytes of the range get the mark, or lose theirs, if there is room for the runs afterwards. It tests no conflict.
+pub(crate) fn set_range(
     locks: &mut Table,
     key: &Key,
     range: &Range,
@@ -204,11 +204,11 @@ pub(crate) fn store(
     ensures elsewhere { SameElsewhere key.now locks.old.marking locks.new.marking }
     ensures limit { locks.new.limit ≡ locks.old.limit }
 {
-    let stored = match mark {
+    let set = match mark {
         Some(mark) => locks.put(key, range, mark),
         None => locks.erase(key, range),
     };
-    match stored {
+    match set {
         Ok(()) => Ok(Answer::Done),
         Err(_) => Err(Errno::ENOLCK),
     }

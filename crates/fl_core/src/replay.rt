@@ -9,7 +9,7 @@ ghost use Rattle.fl_order.specs.declared.told.Answer.{Answer};
 ghost use Rattle.fl_ranges.specs.Change.{after_changes};
 ghost use Rattle.fl_waiting.specs.Waiting.{is_parked};
 
-use crate::locking::{key_of, mark_of, range_of, store};
+use crate::locking::{key_of, mark_of, range_of, set_range};
 use crate::parts::Parts;
 use crate::state::Core;
 use crate::tolds::Tolds;
@@ -99,7 +99,7 @@ fn restore(locks: &mut Table, node: u64, ask: &LockAsk) -> bool
     ensures limit { locks.new.limit ≡ locks.old.limit }
 {
     match range_of(ask) {
-        Some(range) => store(locks, &key_of(node, ask), &range, mark_of(ask)).is_ok(),
+        Some(range) => set_range(locks, &key_of(node, ask), &range, mark_of(ask)).is_ok(),
         None => false,
     }
 }

@@ -10,7 +10,7 @@ ghost use Rattle.fl_core.specs.Settling.{granted_told, marking_granted, oldest_f
 ghost use Rattle.fl_waiting.specs.Waiting.{conflicts_with_held, AreApart};
 ghost use Rattle.fl_waiting.specs.declared.parked.Request.{Request};
 
-use crate::locking::{conflicts_with_held, key_of, store};
+use crate::locking::{conflicts_with_held, key_of, set_range};
 use crate::tolds::Tolds;
 use fl_order::{Answer, Errno, LockAsk, Told};
 use fl_ranges::{Class, Table};
@@ -111,7 +111,7 @@ fn grant(locks: &mut Table, claim: &Claim) -> Told
 {
     Told {
         unique: claim.request.unique,
-        result: store(locks, &claim.key, &claim.range, claim.mark),
+        result: set_range(locks, &claim.key, &claim.range, claim.mark),
     }
 }
 

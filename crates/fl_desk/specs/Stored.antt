@@ -6,5 +6,5 @@ use Rattle.fl_history.specs.declared.history.Line.{Line}
 -- Some journal has stored these lines, with or without more behind them. `stored` says what a journal of its type has
 -- stored.
 pub record IsStored {J : Type 0} (stored : J → List Line) (lines : List Line) : Type 0 where
-  pub kept : J
-  pub front : IsPrefix lines (stored kept)
+  pub journal : J
+  pub front : IsPrefix lines (stored journal)

@@ -73,7 +73,7 @@ pub trait Counter {
             IsPrefix (answered seat.old) (answered_by (worker seat.old) (seen seat.new))) }
         ensures shown { IfOk result (λ answer. shows (seen seat.new) order.now answer) };
 
-    /// Flushes buffered output: a worker has no order at hand, and waits for one. It concerns no seat.
+    /// Stores what is held back: a worker has no order at hand, and waits for one. It concerns no seat.
     fn pause<R: Wait>(&self, rt: &R);
 }
 

@@ -22,7 +22,7 @@ use std::marker::Model;
 /// now, and for how many more lines there is room.
 #[derive(Drop)]
 pub struct Desk<J: Journal = Lines> {
-    kept: J,
+    journal: J,
     present: Core,
 }
 
@@ -35,40 +35,40 @@ impl<J: Journal> Model for Desk<J> {
     ghost coded = { book_code };
 
     ghost view = { λ d. record {
-      lines = J.lines d.kept;
-      stored = J.stored d.kept;
+      lines = J.lines d.journal;
+      stored = J.stored d.journal;
       present = d.present;
-      room = J.room d.kept;
+      room = J.room d.journal;
     } };
 
-    ghost invariant = { λ d. IsKept (J.lines d.kept) d.present };
+    ghost invariant = { λ d. IsKept (J.lines d.journal) d.present };
 }
 
 impl<J: Journal> Desk<J> {
     /// A desk that has taken no order, whose lines go to this journal, which has none so far. Requests will wait by
     /// these rules. If it is refused, the journal is dropped.
-    pub fn over(alloc: Global, kept: J, rules: Rules) -> Result<Desk<J>, NoMemory>
+    pub fn over(alloc: Global, journal: J, rules: Rules) -> Result<Desk<J>, NoMemory>
     where
         J: Drop,
-        requires none { J.lines kept ≡ [] }
+        requires none { J.lines journal ≡ [] }
         ensures lines { IfOk result (λ desk. desk.lines ≡ []) }
         ensures present { IfOk result (λ desk. desk.present ≡ snapshot_of (opening rules)) }
-        ensures stored { IfOk result (λ desk. desk.stored ≡ J.stored kept) }
-        ensures room { IfOk result (λ desk. desk.room ≡ J.room kept) }
+        ensures stored { IfOk result (λ desk. desk.stored ≡ J.stored journal) }
+        ensures room { IfOk result (λ desk. desk.room ≡ J.room journal) }
     {
         let present = Core::new(alloc, rules)?;
-        Ok(Desk { kept, present })
+        Ok(Desk { journal, present })
     }
 
     /// A desk that goes on behind the lines of a journal, from what is there after them.
-    pub fn resume(kept: J, present: Core) -> Desk<J>
-        requires kept { IsKept (J.lines kept) present }
-        ensures lines { result.lines ≡ J.lines kept }
-        ensures stored { result.stored ≡ J.stored kept }
+    pub fn resume(journal: J, present: Core) -> Desk<J>
+        requires kept { IsKept (J.lines journal) present }
+        ensures lines { result.lines ≡ J.lines journal }
+        ensures stored { result.stored ≡ J.stored journal }
         ensures present { result.present ≡ present }
-        ensures room { result.room ≡ J.room kept }
+        ensures room { result.room ≡ J.room journal }
     {
-        Desk { kept, present }
+        Desk { journal, present }
     }
 
     /// Makes room for the lines of one order by its rules, its own and one for each reply: 258 by the standard rules.
@@ -81,7 +81,7 @@ impl<J: Journal> Desk<J> {
         ensures succeeds { self.old.present.rules.parked + 2 ≤ self.old.room → IsOk result }
     {
         let count = self.present.most_tolds() + 1;
-        self.kept.reserve(count)
+        self.journal.reserve(count)
     }
 
     /// The most replies that it gives to one order, by its rules: the order's own, and one to each request that may be
@@ -118,45 +118,48 @@ impl<J: Journal> Desk<J> {
         ensures stored { IsPrefix self.old.stored self.new.stored }
         ensures kept { IsKept self.new.lines self.new.present }
     {
-        let Desk { kept, present } = self;
-        kept.reserve(present.most_tolds() + 1)?;
+        let Desk { journal, present } = self;
+        journal.reserve(present.most_tolds() + 1)?;
         present.step(order, tolds);
-        append(kept, worker, order, tolds.as_slice());
+        append(journal, worker, order, tolds.as_slice());
         Ok(())
     }
 
     /// Stores all lines, and says whether it did. Neither lines nor what is there change.
-    pub fn flush(&mut self) -> bool
+    pub fn store_all(&mut self) -> bool
         ensures lines { self.new.lines ≡ self.old.lines }
         ensures present { self.new.present ≡ self.old.present }
         ensures stored { IsPrefix self.old.stored self.new.stored }
         ensures all { IsTrue result → self.new.stored ≡ self.new.lines }
     {
-        self.kept.flush()
+        self.journal.store_all()
     }
 
     /// Stores all lines if they must be stored before replies leave, and says whether that is so. Neither lines nor
     /// what is there change.
-    pub fn store(&mut self) -> bool
+    pub fn store_if_due(&mut self) -> bool
         ensures lines { self.new.lines ≡ self.old.lines }
         ensures present { self.new.present ≡ self.old.present }
         ensures stored { IsPrefix self.old.stored self.new.stored }
         ensures all { IsTrue result → self.new.stored ≡ self.new.lines }
         ensures there { IsTrue result → IsStored J.stored self.new.lines }
     {
-        self.kept.store()
+        self.journal.store_if_due()
     }
 
     /// Its journal, with the lines of all that it took. They are legal under its rules, and no two owners have
     /// conflicting locks after them.
-    pub fn into_kept(self) -> J
+    pub fn into_journal(self) -> J
         ensures lines { J.lines result ≡ self.lines }
         ensures stored { J.stored result ≡ self.stored }
         ensures legal { IsLegal self.present.rules (J.lines result) }
         ensures lawful { LeavesLawful self.present.rules (J.lines result) }
     {
-        let Desk { kept, present: _ } = self;
-        kept
+        let Desk {
+            journal,
+            present: _,
+        } = self;
+        journal
     }
 }
 
@@ -175,20 +178,20 @@ impl Desk {
         ensures legal { IsLegal self.present.rules result }
         ensures lawful { LeavesLawful self.present.rules result }
     {
-        let kept = self.into_kept();
-        History::of(kept)
+        let journal = self.into_journal();
+        History::of(journal)
     }
 }
 
 // Adds an order and its replies to the lines.
 #[tactic(auto, using(crate::proofs::Prefixes::of_itself, crate::proofs::Prefixes::of_another))]
-fn append<J: Journal>(kept: &mut J, worker: u32, order: &Order, tolds: &[Told])
-    requires { 1 + length tolds.now ≤ J.room kept.old }
-    ensures lines { J.lines kept.new ≡ J.lines kept.old ++ step_lines worker order.now tolds.now }
-    ensures stored { IsPrefix (J.stored kept.old) (J.stored kept.new) }
+fn append<J: Journal>(journal: &mut J, worker: u32, order: &Order, tolds: &[Told])
+    requires { 1 + length tolds.now ≤ J.room journal.old }
+    ensures lines { J.lines journal.new ≡ J.lines journal.old ++ step_lines worker order.now tolds.now }
+    ensures stored { IsPrefix (J.stored journal.old) (J.stored journal.new) }
 {
-    kept.push_asked(worker, order);
+    journal.push_asked(worker, order);
     for told in tolds {
-        kept.push_told(told);
+        journal.push_told(told);
     }
 }

@@ -44,14 +44,14 @@ pub trait Journal {
         ensures room { room self.old ≤ room self.new + 1 };
 
     /// Stores all lines, and says whether it did. No line changes.
-    fn flush(&mut self) -> bool
+    fn store_all(&mut self) -> bool
         ensures lines { lines self.new ≡ lines self.old }
         ensures stored { IsPrefix (stored self.old) (stored self.new) }
         ensures all { IsTrue result → stored self.new ≡ lines self.new };
 
     /// Stores all lines if they must be stored before replies leave, and says whether that is so: they are stored, or
     /// need not be. No line changes.
-    fn store(&mut self) -> bool
+    fn store_if_due(&mut self) -> bool
         ensures lines { lines self.new ≡ lines self.old }
         ensures stored { IsPrefix (stored self.old) (stored self.new) }
         ensures all { IsTrue result → stored self.new ≡ lines self.new };
@@ -81,12 +81,12 @@ impl Journal for Lines {
     }
 
     #[tactic(auto, using(crate::proofs::Prefixes::of_itself))]
-    fn flush(&mut self) -> bool {
+    fn store_all(&mut self) -> bool {
         true
     }
 
     #[tactic(auto, using(crate::proofs::Prefixes::of_itself))]
-    fn store(&mut self) -> bool {
+    fn store_if_due(&mut self) -> bool {
         true
     }
 }

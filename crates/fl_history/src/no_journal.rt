@@ -60,12 +60,12 @@ impl Journal for NoJournal {
     }
 
     #[tactic(auto, using(crate::proofs::Prefixes::of_itself))]
-    fn flush(&mut self) -> bool {
+    fn store_all(&mut self) -> bool {
         true
     }
 
     #[tactic(auto, using(crate::proofs::Prefixes::of_itself))]
-    fn store(&mut self) -> bool {
+    fn store_if_due(&mut self) -> bool {
         true
     }
 }

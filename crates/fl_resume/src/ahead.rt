@@ -78,11 +78,11 @@ impl<T: Write> Journal for AheadLines<T> {
         self.stream.push_told(told);
     }
 
-    fn flush(&mut self) -> bool {
-        self.stream.flush()
+    fn store_all(&mut self) -> bool {
+        self.stream.store_all()
     }
 
-    fn store(&mut self) -> bool {
-        self.stream.store()
+    fn store_if_due(&mut self) -> bool {
+        self.stream.store_if_due()
     }
 }

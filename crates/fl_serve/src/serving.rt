@@ -89,7 +89,7 @@ impl Staff {
 }
 
 /// As `serve`, with this staff, but its lines go to this journal, which has none so far. The journal comes back with
-/// them, except at `NoMemory` and `NoReader`, when it is dropped. It is flushed when a worker has no order at hand.
+/// them, except at `NoMemory` and `NoReader`, when it is dropped. It stores all lines when a worker has no order.
 pub fn record_with_workers<
     R,
     I: Read,

@@ -10,7 +10,7 @@
 //! - says `NoMemory` having read nothing, refuses every order for memory, or loses all of a batch after one that is refused;
 //! - tells `Read`, `Write` or `Unstored` early, since contracts see no failure of a reader, a writer or a journal, or goes
 //!   on reading once lines couldn't be stored;
-//! - sends its replies only at its end, or doesn't flush its journal before a read where no reply waits.
+//! - sends its replies only at its end, or stores no lines before a read where no reply waits.
 //! `tests/serve/sessions.py` and `tests/serve/failing.py` refuse these.
 #![tactic(auto)]
 

@@ -33,7 +33,7 @@ impl<W: Write> Replying<'_, W> {
         ensures behind { WritesBehind desk.old desk.new (outgoing W.contents self.old.batch)
             (outgoing W.contents self.new.batch) }
     {
-        if desk.flush() {
+        if desk.store_all() {
             self.batch.flush();
         } else {
             self.batch.lose();

@@ -182,7 +182,7 @@ fn serve_session<R: Read, W: Write, J: Journal + Drop>(
     let _ = &*writer;
     let Server { desk, refused, .. } = server;
     let recorded = Recorded {
-        journal: Some(desk.into_kept()),
+        journal: Some(desk.into_journal()),
         fault: Fault::told(fault, broken),
         refused,
     };

@@ -2,15 +2,15 @@
 //!
 //! What was written, what waits and what is lost are together the text of all lines. Something is lost only if the
 //! stream is broken, and then nothing more is written. Only a stream that goes on without its writer breaks. A stream
-//! can begin behind lines that its writer has. At `Refuse` and `End`, a `flush` or a `store` that says yes has written
-//! all lines. At `Refuse` a stream that couldn't write takes no order before it has written what waits.
+//! can begin behind lines that its writer has. At `Refuse` and `End`, a `store_all` or `store_if_due` that says yes has
+//! written all lines. At `Refuse` a stream that couldn't write takes no order before it has written what waits.
 //!
 //! Contracts see no failure of a writer, and not whether it was flushed. They let through:
 //! - a `Streamed` that breaks though no write failed, or is refused memory that is there;
-//! - one that writes nothing before it is finished or, at `Refuse` and `End`, flushed or stored, or doesn't flush its
+//! - one that writes nothing before it is finished or, at `Refuse` and `End`, told to store lines, or doesn't flush its
 //!   writer;
-//! - a `finish`, or at `Refuse` and `End` a `flush` or a `store`, that says no though no write failed;
-//! - at `GoOn`, a `store` that writes;
+//! - a `finish`, or at `Refuse` and `End` a `store_all` or a `store_if_due`, that says no though no write failed;
+//! - at `GoOn`, a `store_if_due` that writes;
 //! - a `write_trace` that is always refused, tells a failed write though none failed, or takes more memory.
 //! `fl_stream_tests` and `tests/serve/traces.py` refuse these.
 #![tactic(auto)]

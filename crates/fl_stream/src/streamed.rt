@@ -25,7 +25,7 @@ const MOST_LINES: usize = 2048;
 const MOST_WAITING: usize = 60 * 1024;
 
 /// Lines that go to a writer as their text, as `print_trace` spells it. The text waits in a room of some 1.4 megabytes,
-/// made once. It is written before an order if some 64 KB wait, and when the stream is told to flush, to store or to
+/// made once. It is written before an order if some 64 KB wait, and when the stream is told to store lines or to
 /// finish. At `Refuse` it is written before an order only if there is no room for its lines, and there is none once a
 /// write failed, until one succeeds. What was written is noted when all is, and the writer could hand it on.
 ///
@@ -356,7 +356,7 @@ impl<W: Write> Journal for Streamed<W> {
     }
 
     // It says whether all is written. If it goes on without its writer, nobody wants lines stored, and it says true.
-    fn flush(&mut self) -> bool
+    fn store_all(&mut self) -> bool
         ensures lines { self.new.lines ≡ self.old.lines }
         ensures front { IsPrefix self.old.noted self.new.noted }
         ensures noted { self.new.manner ≢ manner.GoOn → IsTrue result → self.new.noted ≡ self.new.lines }
@@ -370,7 +370,7 @@ impl<W: Write> Journal for Streamed<W> {
     }
 
     // The same, but if it goes on without its writer, nothing is written.
-    fn store(&mut self) -> bool
+    fn store_if_due(&mut self) -> bool
         ensures lines { self.new.lines ≡ self.old.lines }
         ensures front { IsPrefix self.old.noted self.new.noted }
         ensures noted { self.new.manner ≢ manner.GoOn → IsTrue result → self.new.noted ≡ self.new.lines }

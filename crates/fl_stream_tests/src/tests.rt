@@ -63,8 +63,8 @@ fn holds(rt: &impl Abort, held: &[u8], wanted: &[u8]) {
     assert_eq!(rt; *held, *wanted);
 }
 
-// What became of a stream: a count of its lines or flushes, whether it said at the end that all is written, and whether
-// it broke.
+// What became of a stream: a count of its lines, or of the times that it stored none, whether it said at the end that
+// all is written, and whether it broke.
 #[derive(Clone, Copy, Debug, PartialEq, Eq)]
 struct Course {
     count: usize,
@@ -89,13 +89,13 @@ fn finished<W: Write>(stream: Streamed<W>, count: usize) -> (Course, W) {
 }
 
 // Hands a line to a journal, and says whether it took it.
-fn hand<J: Journal>(kept: &mut J, line: &Line) -> bool {
-    if kept.reserve(1).is_err() {
+fn hand<J: Journal>(journal: &mut J, line: &Line) -> bool {
+    if journal.reserve(1).is_err() {
         return false;
     }
     match line {
-        Line::Asked { worker, order } => kept.push_asked(*worker, order),
-        Line::Told(told) => kept.push_told(told),
+        Line::Asked { worker, order } => journal.push_asked(*worker, order),
+        Line::Told(told) => journal.push_told(told),
     }
     true
 }

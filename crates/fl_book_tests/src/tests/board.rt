@@ -114,7 +114,7 @@ fn closed<L: BoardName, R: Wait + Abort>(
 ) -> History
     requires { L.workers ≡ L.parts }
 {
-    match board.into_kept(seats) {
+    match board.into_journal(seats) {
         Ok(lines) => History::of(lines),
         Err(_) => panic!(rt; "a seat is missing"),
     }

@@ -1,4 +1,4 @@
-//! Streams that take one line again and again, and are flushed at the end.
+//! Streams that take one line again and again, and store them at the end.
 
 ghost use Rattle.std.specs.Prelude.{◌≡◌, []};
 
@@ -10,11 +10,11 @@ use std::alloc::Global;
 use std::io::ErrorKind;
 use std::process::Abort;
 
-// Hands one line to a journal so many times, with no flush, and says how often it took it.
-fn hand_often<J: Journal>(kept: &mut J, line: &Line, times: usize) -> usize {
+// Hands one line to a journal so many times, stores none, and says how often it took it.
+fn hand_often<J: Journal>(journal: &mut J, line: &Line, times: usize) -> usize {
     let mut taken = 0usize;
     for _ in 0..times {
-        if hand(kept, line) {
+        if hand(journal, line) {
             taken = taken.saturating_add(1);
         }
     }

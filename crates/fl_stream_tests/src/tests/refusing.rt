@@ -55,14 +55,14 @@ pub(super) fn writer_that_fails(alloc: Global, failures: usize, fails_at: usize)
 
 // Hands a line to a journal and stores it, three times. It says each time whether the line was taken, and whether all
 // is stored.
-fn rounds<J: Journal>(kept: &mut J, line: &Line) -> [bool; 6] {
+fn rounds<J: Journal>(journal: &mut J, line: &Line) -> [bool; 6] {
     [
-        hand(kept, line),
-        kept.store(),
-        hand(kept, line),
-        kept.store(),
-        hand(kept, line),
-        kept.store(),
+        hand(journal, line),
+        journal.store_if_due(),
+        hand(journal, line),
+        journal.store_if_due(),
+        hand(journal, line),
+        journal.store_if_due(),
     ]
 }
 

@@ -1,4 +1,4 @@
-//! Streams that are flushed behind each line, over writers that fail.
+//! Streams that store all lines behind each line, over writers that fail.
 
 ghost use Rattle.std.specs.Prelude.{◌≡◌, []};
 ghost use Rattle.fl_stream.specs.Streams.{IsBlank};
@@ -11,29 +11,29 @@ use std::alloc::Global;
 use std::io::{ErrorKind, Write};
 use std::process::Abort;
 
-// Flushes a journal, and once more if that says no. It says how many of these flushes said no.
-fn failed_flushes<J: Journal>(kept: &mut J) -> usize {
-    if kept.flush() {
+// Has a journal store all lines, and once more if that says no. It says how many times that said no.
+fn refusals<J: Journal>(journal: &mut J) -> usize {
+    if journal.store_all() {
         0
-    } else if kept.flush() {
+    } else if journal.store_all() {
         1
     } else {
         2
     }
 }
 
-// Hands all lines of a history to a journal, and flushes behind each. It says how many of the flushes said no.
-fn store_all<J: Journal>(rt: &impl Abort, kept: &mut J, history: &History) -> usize {
+// Hands all lines of a history to a journal, and has it store them behind each. It says how many times that said no.
+fn store_each<J: Journal>(rt: &impl Abort, journal: &mut J, history: &History) -> usize {
     let mut failed = 0usize;
     for at in 0..history.len() {
-        let taken = hand(kept, &history.line(at));
+        let taken = hand(journal, &history.line(at));
         assert!(rt; taken);
-        failed = failed.saturating_add(failed_flushes(kept));
+        failed = failed.saturating_add(refusals(journal));
     }
     failed
 }
 
-// Stores the lines of a history by a stream over this writer, counts the flushes that said no, and gives it back.
+// Stores the lines of a history by a stream over this writer, counts how many times that said no, and gives it back.
 pub(super) fn stored<W: Write + Drop>(
     rt: &impl Abort,
     writer: W,
@@ -45,11 +45,11 @@ pub(super) fn stored<W: Write + Drop>(
 {
     let made = Streamed::new(alloc, writer, manner);
     let mut stream = made.expect(rt, "no memory");
-    let failed = store_all(rt, &mut stream, history);
+    let failed = store_each(rt, &mut stream, history);
     finished(stream, failed)
 }
 
-// So many flushes say no over this writer, and all is written at the end.
+// Storing says no so many times over this writer, and all is written at the end.
 fn is_caught_up(
     rt: &impl Abort,
     alloc: Global,
@@ -87,7 +87,7 @@ fn all_is_written_if_no_write_fails(rt: HostRuntime) {
 }
 
 #[test]
-fn what_a_flush_left_is_stored_by_the_next(rt: HostRuntime) {
+fn what_was_left_is_stored_the_next_time(rt: HostRuntime) {
     let history = history_of(&rt, rt.alloc(), TRACE);
     for fails_at in 0..LINES {
         for manner in [WhenWriterFails::Refuse, WhenWriterFails::End] {
@@ -106,8 +106,8 @@ fn each_write_of_seven_bytes_fails_once(rt: HostRuntime) {
     }
 }
 
-// The writer fails behind so many writes, and then nothing more is written. The lines were taken, and each flush says
-// yes. What the writer holds is a beginning of the trace, of a byte at least for each write.
+// The writer fails behind so many writes, and then nothing more is written. The lines were taken, and storing them
+// says yes each time. What the writer holds is a beginning of the trace, of a byte at least for each write.
 fn goes_on(rt: &impl Abort, alloc: Global, history: &History, sink: Sink, writes: usize)
     requires { sink.held.items ≡ [] }
 {

@@ -17,7 +17,7 @@ returns-then-not-is_blocked-clause-reply c =
     c.mark_of-mark.ensures in
     let free : is_blocked c.args.rules m v.parked s (mark_of ask) ≡ false = (λ i. is_blocked c.args.rules m v.parked (sym asked i) (sym c.mark_of-mark.ensures i)) ∙ sym c.is_blocked.ensures.wait
     ∙ c.if-not-is_blocked.true in
-    ap Some (c.store.ensures.reply ∙ (λ i. room_reply (c.requires i) m (asked i))) ∙ sym (setlkw_is c.args.rules v m c.args.node ask None false _ _ c.in-Ok.ensures.passed free refl refl)
+    ap Some (c.set_range.ensures.reply ∙ (λ i. room_reply (c.requires i) m (asked i))) ∙ sym (setlkw_is c.args.rules v m c.args.node ask None false _ _ c.in-Ok.ensures.passed free refl refl)
 
 pub returns-then-is_deadlock-clause-reply : goal.returns-then-is_deadlock-clause-reply
 returns-then-is_deadlock-clause-reply c =

@@ -30,7 +30,7 @@ returns-clause-served g c =
     let start : g.W.Write.contents (writer_of c.new-4.result).now ≡ g.W.Write.contents c.args.w.now = search rules in
     let whole = subst Q (search rules) (subst P start all.ensures.ended) in
     rw c.into_parts-writer.ensures.broken (served _ _ _ _ _ _ _ _ same all.ensures.none whole
-    c.into_kept.ensures.lines (λ is. c.told.ensures.reader (rw is refl) ∙ is)
+    c.into_journal.ensures.lines (λ is. c.told.ensures.reader (rw is refl) ∙ is)
     (rw (← c.into_parts-writer.ensures.broken) c.told.ensures.ends) refl)
 
 pub returns-clause-ahead : goal.returns-clause-ahead
@@ -52,12 +52,12 @@ returns-clause-ahead g c =
     HasEnded first (way (g.W.Write.contents c.args.w.now) (record out { held = held })) all.new.server all.result in
     let start : g.W.Write.contents (writer_of c.new-4.result).now ≡ g.W.Write.contents c.args.w.now = search rules in
     let whole = subst Q (search rules) (subst P start all.ensures.ended) in
-    ahead_of _ _ _ _ _ _ _ _ same whole c.into_kept.ensures.stored
+    ahead_of _ _ _ _ _ _ _ _ same whole c.into_journal.ensures.stored
 
 pub returns-clause-legal : goal.returns-clause-legal
 returns-clause-legal g c =
-    let P : Rules → Type 0 = λ by. IsLegal by (g.J.Journal.lines c.into_kept.result) in
+    let P : Rules → Type 0 = λ by. IsLegal by (g.J.Journal.lines c.into_journal.result) in
     let made = c.in_ok-server in
     let same : session_with made.server [] ≡ session_behind c.args.rules c.args.desk.lines (is_some c.args.recent) =
     rw (made.ensures.desk, made.ensures.recent, made.ensures.fresh.handshake, made.ensures.fresh.refused, c.requires.rules) refl in
-    subst P (desk_under _ _ _ _ _ _ _ same c.serve_all-fault.ensures.ended) c.into_kept.ensures.legal
+    subst P (desk_under _ _ _ _ _ _ _ same c.serve_all-fault.ensures.ended) c.into_journal.ensures.legal

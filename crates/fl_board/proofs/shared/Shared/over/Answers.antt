@@ -8,4 +8,4 @@ invariant_of-result g c =
     let made = c.in_ok-record.ensures in
     let none : c.again-stored.result ≡ [] =
     c.again-stored.ensures ∙ ap (λ (p : Publication). p.asks) (c.record.view_is ∙ made) in
-    (rw made refl, rw none (none_stored g.J.Journal.stored c.args.kept))
+    (rw made refl, rw none (none_stored g.J.Journal.stored c.args.journal))

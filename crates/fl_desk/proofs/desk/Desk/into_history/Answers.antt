@@ -4,7 +4,7 @@ use Rattle.fl_desk.proofs.desk.Desk.into_history.Goals as goal
 
 pub returns : goal.returns
 returns c = record {
-  lines = c.of.ensures ∙ c.into_kept-kept.ensures.lines;
-  legal = subst (IsLegal c.args.self.present.rules) (sym c.of.ensures) c.into_kept-kept.ensures.legal;
-  lawful = subst (LeavesLawful c.args.self.present.rules) (sym c.of.ensures) c.into_kept-kept.ensures.lawful;
+  lines = c.of.ensures ∙ c.into_journal-journal.ensures.lines;
+  legal = subst (IsLegal c.args.self.present.rules) (sym c.of.ensures) c.into_journal-journal.ensures.legal;
+  lawful = subst (LeavesLawful c.args.self.present.rules) (sym c.of.ensures) c.into_journal-journal.ensures.lawful;
 }

@@ -5,8 +5,8 @@ use Rattle.fl_board.specs.Seats.{AreApart, Place}
 use Rattle.fl_board.proofs.Counts.{has_all}
 use Rattle.fl_desk.specs.Legal.{orders_asked}
 use Rattle.fl_history.specs.declared.history.Line.{Line}
-use Rattle.fl_board.proofs.board.Board.into_kept.Goals.{then-not-begins_with-via-then-not-begins_with, then-not-begins_with-via-else-not-begins_with+then-not-are_apart}
-use Rattle.fl_board.proofs.board.Board.into_kept.Goals as goal
+use Rattle.fl_board.proofs.board.Board.into_journal.Goals.{then-not-begins_with-via-then-not-begins_with, then-not-begins_with-via-else-not-begins_with+then-not-are_apart}
+use Rattle.fl_board.proofs.board.Board.into_journal.Goals as goal
 
 pub returns-then-not-begins_with-clause-back : goal.returns-then-not-begins_with-clause-back
 returns-then-not-begins_with-clause-back g c =
@@ -34,7 +34,7 @@ returns-clause-each g c =
     let most : All (λ (p : Place). HasMostOf (history_of g.L.BoardName.rules c.into_inner-shared.result) p) seats =
     subst (λ (l : List Place). All (λ (p : Place). HasMostOf (history_of g.L.BoardName.rules c.into_inner-shared.result) p) l) c.deref.ensures.value
     (c.if-not-begins_with.ensures.most refl) in
-    let kept = g.J.Journal.lines c.into_kept.result in
-    let history = c.into_kept.ensures in
+    let kept = g.J.Journal.lines c.into_journal.result in
+    let history = c.into_journal.ensures in
     let total : orders_asked kept ≡ sum_by (λ (p : Place). p.count) seats = history.counted ∙ c.in-Some.ensures.amount in
     has_all kept seats apart (subst (λ (l : List Line). All (λ (p : Place). HasMostOf l p) seats) (sym history.lines) most) total
