@@ -3,5 +3,5 @@ mod Boards
 mod Counts
 mod Histories
 mod Refusing
-mod Rows
+mod Batches
 mod Storing

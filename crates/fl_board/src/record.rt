@@ -14,7 +14,7 @@ ghost use Rattle.fl_log.specs.declared.ask.Ask.{Ask as Handed};
 use crate::asks::asks_lead;
 use crate::seat::Seat;
 use fl_core::{Rules, Tolds};
-use fl_desk::{Desk, HandFault, MOST_IN_ROW, ToldLists};
+use fl_desk::{Desk, HandFault, MOST_IN_BATCH, ToldLists};
 use fl_history::Journal;
 use fl_log::{
     AsAsk, Ask, Asking, Beginning, BoardName, FreshLog, Log, MOST_ENTRIES, ReplicaWriter,
@@ -72,7 +72,7 @@ impl<L: BoardName, R: Wait + Drop, J: Journal> Record<L, R, J> {
         ensures { IfOk result (λ made. made ≡ record { asks = []; shown = Some [] }) }
     {
         let (log, all) = log.named::<L>();
-        let writer = ReplicaWriter::new(alloc, rt, &all, readers, MOST_IN_ROW, rules)?;
+        let writer = ReplicaWriter::new(alloc, rt, &all, readers, MOST_IN_BATCH, rules)?;
         Ok(Record {
             desk: Desk::over(alloc, journal, rules)?,
             book: ledger,

@@ -5,7 +5,7 @@
 //! - what takes orders: `Desk`, for one caller at a time; `Board` with its `Seat`s, for several threads; `Rules`, by
 //!   which requests wait;
 //! - for boards, what names one (`BoardName`, `LogName`, `FreshLog`, `Ask`), what it says in place of an answer
-//!   (`OpenFault`, `HandFault`, `NoView`, `CloseFault`), and what a row of orders needs (`MOST_IN_ROW`, `ToldLists`,
+//!   (`OpenFault`, `HandFault`, `NoView`, `CloseFault`), and what a batch of orders needs (`MOST_IN_BATCH`, `ToldLists`,
 //!   `Outgoing`, `NothingOutgoing`);
 //! - where lines go, a `Journal`: `Lines`, `NoJournal`, or `Streamed` with `WhenWriterFails`;
 //! - `History` and its `Line`s; its text by `read_trace`, `print_trace`, `write_trace`, `first_line` and `has_text`,
@@ -22,7 +22,9 @@ pub use fl_board::{
     Board, BoardName, CloseFault, FreshLog, HandFault, LogName, NoView, OpenFault, Seat,
 };
 pub use fl_core::Rules;
-pub use fl_desk::{Desk, MOST_IN_ROW, NothingOutgoing, Outgoing, ToldLists, Verdict, check, laws};
+pub use fl_desk::{
+    Desk, MOST_IN_BATCH, NothingOutgoing, Outgoing, ToldLists, Verdict, check, laws,
+};
 pub use fl_history::{History, Journal, Line, Lines, NoJournal};
 pub use fl_judge::quiet;
 pub use fl_log::Ask;

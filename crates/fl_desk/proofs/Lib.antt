@@ -1,5 +1,5 @@
 pub mod Histories
-pub mod Rows
+pub mod Batches
 pub mod Verdicts
 pub mod Orders
 pub mod Prefixes

@@ -1,4 +1,4 @@
--- The replies to a row of orders, a list for each.
+-- The replies to a batch of orders, a list for each.
 use Rattle.std.specs.Prelude.{ℕ, List}
 use Rattle.fl_order.specs.declared.told.Told.{Told}
 

@@ -91,8 +91,8 @@ impl Outgoing for NothingOutgoing {
     fn send<R: Wait>(&self, _rt: &R) {}
 }
 
-/// A hook, called for each order that a worker took: before one of its row is handed in or looked for, and after each
-/// reply that was given out to be sent. It must not wait for a reply to another order, which may be of the same row.
+/// A hook, called for each order that a worker took: before one of its batch is handed in or looked for, and after each
+/// reply that was given out to be sent. It must not wait for a reply to another order, which may be of the same batch.
 pub trait Gate {
     /// An order of this unique is about to be handled.
     fn pass(&self, unique: u64);

@@ -18,4 +18,4 @@ pub use counter::{Counter, Gate, NothingOutgoing, OpenGate, Outgoing};
 pub use desk::Desk;
 pub use fault::{HandFault, NoView};
 pub use judge::{Verdict, check};
-pub use told_lists::{MOST_IN_ROW, ToldLists};
+pub use told_lists::{MOST_IN_BATCH, ToldLists};

@@ -1,4 +1,4 @@
-//! The replies to a row of orders: a list for each.
+//! The replies to a batch of orders: a list for each.
 
 ghost use Rattle.std.specs.Prelude.{◌≡◌, ◌<◌, ◌≤◌, ◌+◌, ◌↔◌, [], ◌∷◌, ◌++◌, true, Some, length, vec_capacity, IfOk};
 ghost use Rattle.std.specs.List.{slice_get};
@@ -8,10 +8,10 @@ use fl_order::{NoMemory, Told};
 use std::alloc::Global;
 use std::marker::Model;
 
-/// The most orders of a row.
-pub const MOST_IN_ROW: usize = 16;
+/// The most orders of a batch.
+pub const MOST_IN_BATCH: usize = 16;
 
-/// The replies to a row of orders that were taken one after another: a list for each of at most 16. Contracts see the
+/// The replies to a batch of orders that were taken one after another: a list for each of at most 16. Contracts see the
 /// lists; for how many replies there is room in all, and for how many more; and for how many lists.
 #[derive(Drop)]
 pub struct ToldLists {
@@ -53,8 +53,8 @@ impl ToldLists {
         ensures places { IfOk result (λ made. made.places ≡ 16) }
     {
         Ok(ToldLists {
-            tolds: Vec::with_capacity(alloc, rules.parked as usize + MOST_IN_ROW)?,
-            spans: Vec::with_capacity(alloc, MOST_IN_ROW)?,
+            tolds: Vec::with_capacity(alloc, rules.parked as usize + MOST_IN_BATCH)?,
+            spans: Vec::with_capacity(alloc, MOST_IN_BATCH)?,
         })
     }
 

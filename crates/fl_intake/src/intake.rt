@@ -142,23 +142,23 @@ impl Intake {
         self.queue.push_as::<Putting, R>(rt, &mut end.pass, entry)
     }
 
-    /// Takes the oldest job into a row that has none, and waits while none is inside. It takes none once the intake is
+    /// Takes the oldest job into a batch that has none, and waits while none is inside. It takes none once the intake is
     /// closed and empty.
-    pub fn take<R: Wait>(&self, rt: &R, end: &mut TakeEnd, row: &mut Vec<Job>)
+    pub fn take<R: Wait>(&self, rt: &R, end: &mut TakeEnd, batch: &mut Vec<Job>)
         requires end { end.old.of ≡ self.now }
-        requires none { row.old.items ≡ [] }
-        requires room { 0 < vec_capacity row.old }
+        requires none { batch.old.items ≡ [] }
+        requires room { 0 < vec_capacity batch.old }
         ensures same { end.new.of ≡ end.old.of }
-        ensures taken { end.new.taken ≡ end.old.taken ++ row.new.items }
-        ensures one { length row.new.items ≤ 1 }
-        ensures room { vec_capacity row.new ≡ vec_capacity row.old }
+        ensures taken { end.new.taken ≡ end.old.taken ++ batch.new.items }
+        ensures one { length batch.new.items ≤ 1 }
+        ensures room { vec_capacity batch.new ≡ vec_capacity batch.old }
     {
         let mut slept = false;
         for _ in rt.forever() {
             // Whoever closes puts nothing afterwards. So if it is closed before this try, the try misses no job.
             let closed = self.waking.is_closed();
             if let Some(entry) = self.pop(rt, end) {
-                row.push_reserved(self.boxes.order_of(rt, entry));
+                batch.push_reserved(self.boxes.order_of(rt, entry));
                 self.waking.count_taken(1);
                 if slept {
                     self.waking.call_one_more();
@@ -174,25 +174,25 @@ impl Intake {
         unreachable!()
     }
 
-    /// Takes several jobs, the oldest first, into a row that has none. They are this end's share of those inside: their
-    /// number divided by that of the ends that take, and one at least. It takes no more than the row has room for. It
+    /// Takes several jobs, the oldest first, into a batch that has none. They are this end's share of those inside: their
+    /// number divided by that of the ends that take, and one at least. It takes no more than the batch has room for. It
     /// doesn't sleep, and takes none if none is inside.
-    pub fn take_many<R: Wait>(&self, rt: &R, end: &mut TakeEnd, row: &mut Vec<Job>)
+    pub fn take_many<R: Wait>(&self, rt: &R, end: &mut TakeEnd, batch: &mut Vec<Job>)
         requires end { end.old.of ≡ self.now }
-        requires none { row.old.items ≡ [] }
+        requires none { batch.old.items ≡ [] }
         ensures same { end.new.of ≡ end.old.of }
-        ensures taken { end.new.taken ≡ end.old.taken ++ row.new.items }
-        ensures room { vec_capacity row.new ≡ vec_capacity row.old }
+        ensures taken { end.new.taken ≡ end.old.taken ++ batch.new.items }
+        ensures room { vec_capacity batch.new ≡ vec_capacity batch.old }
     {
-        let most = self.waking.share().min(row.capacity() as u64);
+        let most = self.waking.share().min(batch.capacity() as u64);
         for _ in 0..most {
             let Some(entry) = self.pop(rt, end) else {
                 break;
             };
-            row.push_reserved(self.boxes.order_of(rt, entry));
+            batch.push_reserved(self.boxes.order_of(rt, entry));
         }
-        if !row.is_empty() {
-            self.waking.count_taken(row.len() as u64);
+        if !batch.is_empty() {
+            self.waking.count_taken(batch.len() as u64);
         }
     }
 

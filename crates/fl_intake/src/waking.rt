@@ -100,7 +100,7 @@ impl Waking {
         }
     }
 
-    /// How many of the jobs inside one end may take at once, one at least. What it takes waits in its row, however many
+    /// How many of the jobs inside one end may take at once, one at least. What it takes waits in its batch, however many
     /// others are free, so each end leaves as much to each other one.
     pub(crate) fn share(&self) -> u64 {
         // A job can be counted as taken before it is counted as put.

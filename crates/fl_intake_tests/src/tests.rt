@@ -30,7 +30,7 @@ fn lock(unique: u64) -> LockAsk {
     }
 }
 
-// What is asked by the order with this unique: twelve in a row are of all kinds, and their names have 1 or 255 bytes.
+// What is asked by the order with this unique: twelve in a batch are of all kinds, and their names have 1 or 255 bytes.
 fn op(rt: &impl Abort, unique: u64) -> Op {
     match unique % 12 {
         0 => Op::Create {

@@ -11,7 +11,7 @@ ghost use Rattle.fl_intake.specs.Often.{Weight};
 ghost use Rattle.fl_intake.specs.Ends.{weight_taken};
 ghost use Rattle.fl_serve.specs.Inside.Working.{HasComeBack, HasRun, HaveDone, IsFresh, IsIdle};
 ghost use Rattle.fl_transport.specs.Inbox.{IsUnread};
-ghost use Rattle.fl_workers.specs.Room.{HasRoomFor, HasRowFor};
+ghost use Rattle.fl_workers.specs.Room.{HasRoomFor, HasBatchFor};
 
 use core::thread::Stack;
 use fl_board::{Board, BoardName, Seat};
@@ -22,7 +22,7 @@ use fl_order::NoMemory;
 use fl_transport::{Fault, Inbox, Response};
 use fl_workers::laws::orders_are_worked_on_in_turn;
 use fl_workers::{
-    Failures, Gate, Post, Received, ReplyEntry, ReplyRoom, RowRoom, SharedSender, Worked,
+    BatchRoom, Failures, Gate, Post, Received, ReplyEntry, ReplyRoom, SharedSender, Worked,
     WriterName, handle_all, receive_all, worker_loop,
 };
 use std::alloc::Global;
@@ -116,7 +116,7 @@ pub(crate) struct Posts<L: BoardName, N: WriterName> {
     /// An end of the intake for each.
     pub ends: Vec<TakeEnd>,
     /// Room for the orders that each takes at once, and for the replies to them.
-    pub rooms: Vec<RowRoom>,
+    pub rooms: Vec<BatchRoom>,
     /// Room for those that are started.
     pub threads: Vec<Thread<L, N>>,
     /// Room for what comes back.
@@ -152,7 +152,7 @@ impl<
         requires unread { IsUnread inbox }
         requires put { (put.of ≡ self.now.intake) × (put.closed ≡ false) × (put.put ≡ []) }
         requires ends { All (IsFresh self.now.intake) posts.ends.items }
-        requires rooms { All (HasRowFor (L.rules.parked + 1)) posts.rooms.items }
+        requires rooms { All (HasBatchFor (L.rules.parked + 1)) posts.rooms.items }
         ensures ran { HasRun (record {
           rules = L.rules;
           of = self.now.intake;
@@ -189,7 +189,7 @@ impl<
                 requires unread { IsUnread inbox }
                 requires put { (put.of ≡ self.now.intake) × (put.closed ≡ false) × (put.put ≡ []) }
                 requires ends { All (IsFresh self.now.intake) posts.ends.items }
-                requires rooms { All (HasRowFor (L.rules.parked + 1)) posts.rooms.items }
+                requires rooms { All (HasBatchFor (L.rules.parked + 1)) posts.rooms.items }
                 ensures same { result.2.ghost_name ≡ r.entry.ghost_name }
                 ensures ran { HasRun (record {
                   rules = L.rules;
@@ -263,7 +263,7 @@ impl<
         scope: &Scope<'s, E>,
         posts: Vec<Post<Seat<L>, N>>,
         ends: &mut Vec<TakeEnd>,
-        rooms: &mut Vec<RowRoom>,
+        rooms: &mut Vec<BatchRoom>,
         threads: &mut Vec<Thread<L, N>>,
     ) -> bool
     where
@@ -271,7 +271,7 @@ impl<
         'w: 's,
         requires idle { All (λ post. IsIdle post.seat post.own) posts.items }
         requires ends { All (IsFresh self.now.intake) ends.old.items }
-        requires rooms { All (HasRowFor (L.rules.parked + 1)) rooms.old.items }
+        requires rooms { All (HasBatchFor (L.rules.parked + 1)) rooms.old.items }
         requires none { threads.old.items ≡ [] }
         requires room { length posts.items ≤ vec_capacity threads.old }
         ensures most { length threads.new.items ≤ length posts.items }
@@ -294,18 +294,18 @@ impl<
         scope: &Scope<'s, E>,
         post: Post<Seat<L>, N>,
         ends: &mut Vec<TakeEnd>,
-        rooms: &mut Vec<RowRoom>,
+        rooms: &mut Vec<BatchRoom>,
     ) -> Option<Thread<L, N>>
     where
         'a: 's,
         'w: 's,
         requires idle { IsIdle post.seat post.own }
         requires ends { All (IsFresh self.now.intake) ends.old.items }
-        requires rooms { All (HasRowFor (L.rules.parked + 1)) rooms.old.items }
+        requires rooms { All (HasBatchFor (L.rules.parked + 1)) rooms.old.items }
         ensures whose { IfSome result (λ t. t.promise.worker ≡ post.seat.worker) }
         ensures end { IfSome result (λ t. IsFresh self.now.intake t.promise.end.value) }
         ensures ends { All (IsFresh self.now.intake) ends.new.items }
-        ensures rooms { All (HasRowFor (L.rules.parked + 1)) rooms.new.items }
+        ensures rooms { All (HasBatchFor (L.rules.parked + 1)) rooms.new.items }
     {
         let (end, room) = self.last_of(ends, rooms)?;
         self.start(scope, post, end, room)
@@ -315,14 +315,14 @@ impl<
     fn last_of(
         &self,
         ends: &mut Vec<TakeEnd>,
-        rooms: &mut Vec<RowRoom>,
-    ) -> Option<(TakeEnd, RowRoom)>
+        rooms: &mut Vec<BatchRoom>,
+    ) -> Option<(TakeEnd, BatchRoom)>
         requires ends { All (IsFresh self.now.intake) ends.old.items }
-        requires rooms { All (HasRowFor (L.rules.parked + 1)) rooms.old.items }
+        requires rooms { All (HasBatchFor (L.rules.parked + 1)) rooms.old.items }
         ensures end { IfSome result (λ last. IsFresh self.now.intake last.0) }
-        ensures room { IfSome result (λ last. HasRowFor (L.rules.parked + 1) last.1) }
+        ensures room { IfSome result (λ last. HasBatchFor (L.rules.parked + 1) last.1) }
         ensures ends { All (IsFresh self.now.intake) ends.new.items }
-        ensures rooms { All (HasRowFor (L.rules.parked + 1)) rooms.new.items }
+        ensures rooms { All (HasBatchFor (L.rules.parked + 1)) rooms.new.items }
     {
         let end = ends.pop()?;
         let room = rooms.pop()?;
@@ -335,14 +335,14 @@ impl<
         scope: &Scope<'s, E>,
         post: Post<Seat<L>, N>,
         end: TakeEnd,
-        room: RowRoom,
+        room: BatchRoom,
     ) -> Option<Thread<L, N>>
     where
         'a: 's,
         'w: 's,
         requires idle { IsIdle post.seat post.own }
         requires end { end.of ≡ self.now.intake }
-        requires room { HasRowFor (L.rules.parked + 1) room }
+        requires room { HasBatchFor (L.rules.parked + 1) room }
         ensures whose { IfSome result (λ t. t.promise.worker ≡ post.seat.worker) }
         ensures end { IfSome result (λ t. t.promise.end.value ≡ end) }
     {
@@ -358,7 +358,7 @@ impl<
                 move || -> Worked<Seat<L>, N>
                     requires idle { IsIdle post.seat post.own }
                     requires end { end.of ≡ self.now.intake }
-                    requires room { HasRowFor (L.rules.parked + 1) room }
+                    requires room { HasBatchFor (L.rules.parked + 1) room }
                     ensures { HasComeBack L.rules post.seat.worker end result.post.seat result.post.own result.end
                         result.failures.refused result.failures.lost }
                 { self.work(post, end, room) },
@@ -367,10 +367,10 @@ impl<
     }
 
     // What a worker does.
-    fn work(&self, post: Post<Seat<L>, N>, end: TakeEnd, room: RowRoom) -> Worked<Seat<L>, N>
+    fn work(&self, post: Post<Seat<L>, N>, end: TakeEnd, room: BatchRoom) -> Worked<Seat<L>, N>
         requires idle { IsIdle post.seat post.own }
         requires end { end.of ≡ self.now.intake }
-        requires room { HasRowFor (L.rules.parked + 1) room }
+        requires room { HasBatchFor (L.rules.parked + 1) room }
         ensures { HasComeBack L.rules post.seat.worker end result.post.seat result.post.own result.end
             result.failures.refused result.failures.lost }
     {

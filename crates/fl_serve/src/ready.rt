@@ -6,7 +6,7 @@ ghost use Rattle.std.specs.List.{range_with_len};
 ghost use Rattle.fl_transport.specs.Inbox.{IsUnread};
 ghost use Rattle.fl_serve.specs.Inside.Working.{IsFresh};
 ghost use Rattle.fl_serve.specs.Serve.{IsRecordedBy};
-ghost use Rattle.fl_workers.specs.Room.{HasRoomFor, HasRowFor};
+ghost use Rattle.fl_workers.specs.Room.{HasRoomFor, HasBatchFor};
 
 use crate::finishing::{finish, unstarted};
 use crate::pool::{Posts, WorkerPool};
@@ -70,7 +70,7 @@ impl<'a, 'w, L: BoardName, N: WriterName, R: Wait, W: Write, J: Journal> Ready<
             × (workers < vec_capacity rooms.stock.each.back.appenders)
             × (workers ≤ vec_capacity rooms.stock.each.back.ends) }
         requires left { HasRoomFor (L.rules.parked + 1) rooms.stock.own.left }
-        requires rows { All (HasRowFor (L.rules.parked + 1)) rooms.stock.each.rows.items }
+        requires batches { All (HasBatchFor (L.rules.parked + 1)) rooms.stock.each.batches.items }
         requires start { W.contents w.old ≡ N.start }
         requires writer { w.ghost_name ≡ N.writer }
         requires sending { (sending.name ≡ N.name) × (sending.parts ≡ N.parts) × (workers + 1 ≡ N.parts) }
@@ -81,7 +81,7 @@ impl<'a, 'w, L: BoardName, N: WriterName, R: Wait, W: Write, J: Journal> Ready<
             × (result.put.put ≡ []) }
         ensures unread { IsUnread result.inbox }
         ensures left { HasRoomFor (L.rules.parked + 1) result.left }
-        ensures rows { All (HasRowFor (L.rules.parked + 1)) result.posts.rooms.items }
+        ensures batches { All (HasBatchFor (L.rules.parked + 1)) result.posts.rooms.items }
         ensures own { result.own ≡ record { author = workers; count = 0; own = [] } }
     {
         let Rooms {
@@ -144,7 +144,7 @@ pub(crate) fn run_ready<
         × (ready.put.put ≡ []) }
     requires unread { IsUnread ready.inbox }
     requires left { HasRoomFor (L.rules.parked + 1) ready.left }
-    requires rows { All (HasRowFor (L.rules.parked + 1)) ready.posts.rooms.items }
+    requires batches { All (HasBatchFor (L.rules.parked + 1)) ready.posts.rooms.items }
     requires own { ready.own ≡ record { author = staff.workers; count = 0; own = [] } }
     ensures writer { result.1.ghost_name ≡ N.writer }
     ensures recorded { IsRecordedBy J.lines staff.workers L.rules (record {

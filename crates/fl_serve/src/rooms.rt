@@ -4,7 +4,7 @@ ghost use Rattle.std.specs.Prelude.{◌≡◌, ◌≤◌, ◌<◌, ◌+◌, [], 
 ghost use Rattle.std.specs.List.{range_with_len};
 ghost use Rattle.fl_serve.specs.Inside.Working.{IsFresh};
 ghost use Rattle.fl_transport.specs.Inbox.{IsUnread};
-ghost use Rattle.fl_workers.specs.Room.{HasRoomFor, HasRowFor};
+ghost use Rattle.fl_workers.specs.Room.{HasRoomFor, HasBatchFor};
 
 use crate::pool::{Back, Posts, Thread};
 use fl_board::{Board, BoardName, OpenFault, Seat};
@@ -14,7 +14,7 @@ use fl_intake::{Intake, PutEnd, TakeEnd};
 use fl_log::{Ask, FreshLog};
 use fl_order::NoMemory;
 use fl_transport::{Inbox, ReplyBuffer};
-use fl_workers::{Post, ReplyRoom, RowRoom, SharedSender, WriterName};
+use fl_workers::{BatchRoom, Post, ReplyRoom, SharedSender, WriterName};
 use std::alloc::Global;
 use std::io::Write;
 use std::sync::Wait;
@@ -58,7 +58,7 @@ impl<L: BoardName, N: WriterName, R: Wait + Drop, J: Journal + Drop> Rooms<L, N,
             × (workers < vec_capacity rooms.stock.each.back.appenders)
             × (workers ≤ vec_capacity rooms.stock.each.back.ends)) }
         ensures left { IfOk result (λ rooms. HasRoomFor (L.rules.parked + 1) rooms.stock.own.left) }
-        ensures rows { IfOk result (λ rooms. All (HasRowFor (L.rules.parked + 1)) rooms.stock.each.rows.items) }
+        ensures batches { IfOk result (λ rooms. All (HasBatchFor (L.rules.parked + 1)) rooms.stock.each.batches.items) }
     {
         let stock = Stock::<L, N>::new(alloc, workers, rules)?;
         let (board, seats) = Board::<L, R, J>::over(
@@ -97,7 +97,7 @@ pub(crate) struct Each<L: BoardName, N: WriterName> {
     /// Room for where they work.
     pub posts: Vec<Post<Seat<L>, N>>,
     /// For the orders that each takes at once, and for the replies to them.
-    pub rows: Vec<RowRoom>,
+    pub batches: Vec<BatchRoom>,
     pub threads: Vec<Thread<L, N>>,
     pub back: Back<L, N>,
     ghost none: { (posts.items ≡ []) × (threads.items ≡ []) × (back.seats.items ≡ []) × (back.appenders.items ≡ [])
@@ -117,7 +117,7 @@ impl<L: BoardName, N: WriterName> Stock<L, N> {
             × (workers ≤ vec_capacity stock.each.back.seats) × (workers < vec_capacity stock.each.back.appenders)
             × (workers ≤ vec_capacity stock.each.back.ends)) }
         ensures left { IfOk result (λ stock. HasRoomFor (rules.parked + 1) stock.own.left) }
-        ensures rows { IfOk result (λ stock. All (HasRowFor (rules.parked + 1)) stock.each.rows.items) }
+        ensures batches { IfOk result (λ stock. All (HasBatchFor (rules.parked + 1)) stock.each.batches.items) }
     {
         let own = Own::new(alloc, rules)?;
         let each = Each::new(alloc, workers, rules)?;
@@ -151,26 +151,26 @@ impl<L: BoardName, N: WriterName> Each<L, N> {
         ensures room { IfOk result (λ each. (workers ≤ vec_capacity each.posts) × (workers ≤ vec_capacity each.threads)
             × (workers ≤ vec_capacity each.back.seats) × (workers < vec_capacity each.back.appenders)
             × (workers ≤ vec_capacity each.back.ends)) }
-        ensures rows { IfOk result (λ each. All (HasRowFor (rules.parked + 1)) each.rows.items) }
+        ensures batches { IfOk result (λ each. All (HasBatchFor (rules.parked + 1)) each.batches.items) }
     {
         Ok(Each {
             posts: Vec::with_capacity(alloc, workers as usize)?,
-            rows: rooms_for_rows(alloc, workers, rules)?,
+            batches: rooms_for_batches(alloc, workers, rules)?,
             threads: Vec::with_capacity(alloc, workers as usize)?,
             back: Back::with_room(alloc, workers)?,
         })
     }
 }
 
-// Room for a row of orders and the replies to it under these rules, for each worker.
-fn rooms_for_rows(alloc: Global, workers: u32, rules: Rules) -> Result<Vec<RowRoom>, NoMemory>
-    ensures { IfOk result (λ rows. All (HasRowFor (rules.parked + 1)) rows.items) }
+// Room for a batch of orders and the replies to it under these rules, for each worker.
+fn rooms_for_batches(alloc: Global, workers: u32, rules: Rules) -> Result<Vec<BatchRoom>, NoMemory>
+    ensures { IfOk result (λ batches. All (HasBatchFor (rules.parked + 1)) batches.items) }
 {
-    let mut rows = Vec::with_capacity(alloc, workers as usize)?;
+    let mut batches = Vec::with_capacity(alloc, workers as usize)?;
     for _ in 0..workers {
-        rows.push(RowRoom::new(alloc, rules)?)?;
+        batches.push(BatchRoom::new(alloc, rules)?)?;
     }
-    Ok(rows)
+    Ok(batches)
 }
 
 /// What each worker gets: its seat, its end of the intake, and an appender in its name, cut from the rest of the
@@ -190,12 +190,12 @@ pub(crate) fn posts_at<L: BoardName, N: WriterName, W: Write>(
         × (length seats.items ≤ vec_capacity each.back.ends) }
     ensures seats { map (λ post. post.seat) result.posts.items ≡ seats.items }
     ensures ends { result.ends.items ≡ ends.items }
-    ensures rows { result.rooms.items ≡ each.rows.items }
+    ensures batches { result.rooms.items ≡ each.batches.items }
     ensures rest { (rest.new.parts + length seats.items ≡ rest.old.parts) × (rest.new.amount ≡ 0) }
 {
     let Each {
         posts,
-        rows,
+        batches,
         threads,
         back,
     } = each;
@@ -207,7 +207,7 @@ pub(crate) fn posts_at<L: BoardName, N: WriterName, W: Write>(
     Posts {
         posts,
         ends,
-        rooms: rows,
+        rooms: batches,
         threads,
         back,
     }

@@ -300,7 +300,7 @@ impl<W: Write> Journal for Streamed<W> {
 
     ghost room = { λ s. s.room };
 
-    // If it goes on without its writer, no order is refused. At `Refuse` each row of orders is stored before its replies
+    // If it goes on without its writer, no order is refused. At `Refuse` each batch of orders is stored before its replies
     // leave, so nothing waits unless a write failed.
     fn reserve(&mut self, count: usize) -> Result<(), NoMemory>
         requires few { count ≤ 2048 }

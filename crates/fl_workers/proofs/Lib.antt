@@ -1,7 +1,7 @@
 pub mod Growing
 pub mod HandedLemmas
 pub mod ReceivingLemmas
-pub mod RowLemmas
+pub mod BatchLemmas
 pub mod SenderLemmas
 pub mod SentLemmas
 pub mod WorkedLemmas

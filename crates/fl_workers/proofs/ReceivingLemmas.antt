@@ -16,7 +16,7 @@ use Rattle.fl_transport.specs.declared.handshake.Incoming.{Incoming}
 use Rattle.fl_transport.specs.declared.handshake.Incoming.TheVariants as incoming
 use Rattle.fl_transport.specs.declared.response.Response.{Response}
 use Rattle.fl_transport.specs.declared.response.Response.TheVariants.{Nothing}
-use Rattle.fl_workers.proofs.RowLemmas.{take_next}
+use Rattle.fl_workers.proofs.BatchLemmas.{take_next}
 use Rattle.fl_workers.proofs.SentLemmas.{each_sent, none_sent, one_given, one_lost}
 use Rattle.fl_workers.specs.Inside.Receiving.{AreAnswered, HasGiven, IsReceiving, given_now, so_far}
 use Rattle.fl_workers.specs.Received.{HasReceived, Reception, answer_by, left_to_answer}

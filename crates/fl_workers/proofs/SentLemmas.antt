@@ -8,7 +8,7 @@ use Rattle.fl_log.specs.Appended.{Appended, IsAppended}
 use Rattle.fl_log.specs.Growing.{Grows}
 use Rattle.fl_order.specs.declared.told.Told.{Told}
 use Rattle.fl_workers.proofs.Growing.{appended_more, none_more, then_more}
-use Rattle.fl_workers.proofs.RowLemmas.{take_next}
+use Rattle.fl_workers.proofs.BatchLemmas.{take_next}
 use Rattle.fl_workers.specs.Inside.Lists.{entries_for}
 use Rattle.fl_workers.specs.Sent.{HasSent, entries_of, entry, replies_to}
 use Rattle.fl_workers.specs.declared.entry.ReplyEntry.{ReplyEntry}

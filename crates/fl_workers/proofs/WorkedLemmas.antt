@@ -176,12 +176,12 @@ pub none_done : (shows : Shows) (taken : Orders) (here : Standing) (any lost : B
 none_done shows taken here any lost none =
     record { took = []; is = sym (append-nil taken); worked = none_worked shows here any lost none }
 
-pub done_more : (shows : Shows) (taken before after row : Orders) (p q r : Standing)
+pub done_more : (shows : Shows) (taken before after batch : Orders) (p q r : Standing)
     (any more all lost more_lost all_lost : Bool) → (all ≡ (any || more)) × (all_lost ≡ (lost || more_lost))
-    → HasDone shows taken before p q any lost → after ≡ before ++ row
-    → HasWorked shows row q r more more_lost → HasDone shows taken after p r all all_lost
-done_more shows taken before after row p q r any more all lost more_lost all_lost both so_far next now = record {
-  took = so_far.took ++ row;
-  is = next ∙ ap (λ l. l ++ row) so_far.is ∙ append_assoc taken so_far.took row;
-  worked = then_worked shows so_far.took row p q r any more all lost more_lost all_lost both so_far.worked now;
+    → HasDone shows taken before p q any lost → after ≡ before ++ batch
+    → HasWorked shows batch q r more more_lost → HasDone shows taken after p r all all_lost
+done_more shows taken before after batch p q r any more all lost more_lost all_lost both so_far next now = record {
+  took = so_far.took ++ batch;
+  is = next ∙ ap (λ l. l ++ batch) so_far.is ∙ append_assoc taken so_far.took batch;
+  worked = then_worked shows so_far.took batch p q r any more all lost more_lost all_lost both so_far.worked now;
 }

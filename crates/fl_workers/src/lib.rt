@@ -23,6 +23,6 @@ mod worker;
 pub use entry::{Reply, ReplyEntry};
 pub use fl_desk::{Counter, Gate, OpenGate};
 pub use receiver::{Received, receive_all};
-pub use room::{ReplyRoom, RowRoom};
+pub use room::{BatchRoom, ReplyRoom};
 pub use sender::{Abandoned, Returned, SharedSender, WriterName};
 pub use worker::{Failures, Post, Worked, handle_all, worker_loop};

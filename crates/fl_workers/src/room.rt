@@ -1,15 +1,15 @@
-//! Room for a row of orders, and for the replies to it.
+//! Room for a batch of orders, and for the replies to it.
 
 ghost use Rattle.std.specs.Prelude.{◌≡◌, ◌+◌, vec_capacity, IfOk};
-ghost use Rattle.fl_workers.specs.Room.{HasRoomFor, HasRowFor};
+ghost use Rattle.fl_workers.specs.Room.{HasRoomFor, HasBatchFor};
 
 use fl_core::{Rules, Tolds};
-use fl_desk::{MOST_IN_ROW, ToldLists};
+use fl_desk::{MOST_IN_BATCH, ToldLists};
 use fl_intake::Job;
 use fl_order::NoMemory;
 use std::alloc::Global;
 
-/// Room for the replies to a row of orders.
+/// Room for the replies to a batch of orders.
 #[derive(Drop)]
 pub struct ReplyRoom {
     /// For those to one order, while it is taken.
@@ -32,21 +32,21 @@ impl ReplyRoom {
 
 /// Room for the orders that a worker takes at once, and for the replies to them.
 #[derive(Drop)]
-pub struct RowRoom {
+pub struct BatchRoom {
     /// For the orders.
-    pub row: Vec<Job>,
+    pub batch: Vec<Job>,
     /// For the replies.
     pub replies: ReplyRoom,
 }
 
-impl RowRoom {
+impl BatchRoom {
     /// Room for 16 orders at most, and for the replies to them under these rules.
-    pub fn new(alloc: Global, rules: Rules) -> Result<RowRoom, NoMemory>
-        ensures room { IfOk result (λ room. HasRowFor (rules.parked + 1) room) }
-        ensures row { IfOk result (λ room. vec_capacity room.row ≡ 16) }
+    pub fn new(alloc: Global, rules: Rules) -> Result<BatchRoom, NoMemory>
+        ensures room { IfOk result (λ room. HasBatchFor (rules.parked + 1) room) }
+        ensures batch { IfOk result (λ room. vec_capacity room.batch ≡ 16) }
     {
-        Ok(RowRoom {
-            row: Vec::with_capacity(alloc, MOST_IN_ROW)?,
+        Ok(BatchRoom {
+            batch: Vec::with_capacity(alloc, MOST_IN_BATCH)?,
             replies: ReplyRoom::new(alloc, rules)?,
         })
     }

@@ -7,12 +7,12 @@ ghost use Rattle.fl_desk.specs.Answered.{answered_by};
 ghost use Rattle.fl_order.specs.Order.{kind_of, only_reads};
 ghost use Rattle.fl_transport.specs.Response.{lost};
 ghost use Rattle.fl_workers.specs.Inside.Lists.{entries_for};
-ghost use Rattle.fl_workers.specs.Room.{HasRoomFor, HasRowFor};
+ghost use Rattle.fl_workers.specs.Room.{HasRoomFor, HasBatchFor};
 ghost use Rattle.fl_workers.specs.Sent.{HasSent, entry, replies_of};
 ghost use Rattle.fl_workers.specs.Worked.{HasDone, HasWorked, standing};
 
 use crate::entry::ReplyEntry;
-use crate::room::{ReplyRoom, RowRoom};
+use crate::room::{BatchRoom, ReplyRoom};
 use crate::sender::{SharedSender, WriterName};
 use fl_desk::{Counter, Gate, Outgoing, ToldLists};
 use fl_intake::{Intake, Job, TakeEnd};
@@ -73,7 +73,7 @@ pub struct Worked<S, N: WriterName> {
     pub failures: Failures,
 }
 
-/// Takes rows of orders until the intake is closed and empty, and handles each as `handle_all` does. Seat and end come
+/// Takes batches of orders until the intake is closed and empty, and handles each as `handle_all` does. Seat and end come
 /// back. Before it waits for an order it sends what is collected, and tells the counter.
 pub fn worker_loop<R: Wait, C: Counter, G: Gate, W: Write, N: WriterName>(
     rt: &R,
@@ -83,10 +83,10 @@ pub fn worker_loop<R: Wait, C: Counter, G: Gate, W: Write, N: WriterName>(
     sender: &Mutex<SharedSender<'_, W, N>>,
     post: Post<C::Seat, N>,
     end: TakeEnd,
-    room: RowRoom,
+    room: BatchRoom,
 ) -> Worked<C::Seat, N>
     requires end { end.of ≡ intake.now }
-    requires room { HasRowFor C.most_tolds room }
+    requires room { HasBatchFor C.most_tolds room }
     ensures end { result.end.of ≡ intake.now }
     ensures did { HasDone C.shows end.taken result.end.taken
         (standing C.worker C.count C.answered C.seen post.seat post.own)
@@ -95,16 +95,16 @@ pub fn worker_loop<R: Wait, C: Counter, G: Gate, W: Write, N: WriterName>(
 {
     let mut post = post;
     let mut end = end;
-    let RowRoom {
-        mut row,
+    let BatchRoom {
+        mut batch,
         mut replies,
     } = room;
     let mut failures = Failures::none();
     for _ in rt.forever() {
-        if !next_row(rt, counter, intake, &mut end, sender, &mut row) {
+        if !next_batch(rt, counter, intake, &mut end, sender, &mut batch) {
             break;
         }
-        let more = handle_all(rt, counter, gate, sender, &mut post, &mut replies, &row);
+        let more = handle_all(rt, counter, gate, sender, &mut post, &mut replies, &batch);
         failures = failures.or(more);
     }
     Worked {
@@ -280,37 +280,37 @@ fn looked<C: Counter>(counter: &C, seat: &mut C::Seat, order: &Order) -> Option<
     })
 }
 
-// Takes the next orders into the row, in the place of those before, and says whether one came. If none is there, what
+// Takes the next orders into the batch, in the place of those before, and says whether one came. If none is there, what
 // is collected is sent first, and the counter is told. Then a worker spins for a while before it sleeps.
-fn next_row<R: Wait, C: Counter, W: Write, N: WriterName>(
+fn next_batch<R: Wait, C: Counter, W: Write, N: WriterName>(
     rt: &R,
     counter: &C,
     intake: &Intake,
     end: &mut TakeEnd,
     sender: &Mutex<SharedSender<'_, W, N>>,
-    row: &mut Vec<Job>,
+    batch: &mut Vec<Job>,
 ) -> bool
     requires end { end.old.of ≡ intake.now }
-    requires room { 0 < vec_capacity row.old }
+    requires room { 0 < vec_capacity batch.old }
     ensures of { end.new.of ≡ intake.now }
-    ensures room { vec_capacity row.new ≡ vec_capacity row.old }
-    ensures taken { end.new.taken ≡ end.old.taken ++ row.new.items }
-    ensures none { result ≡ false → row.new.items ≡ [] }
+    ensures room { vec_capacity batch.new ≡ vec_capacity batch.old }
+    ensures taken { end.new.taken ≡ end.old.taken ++ batch.new.items }
+    ensures none { result ≡ false → batch.new.items ≡ [] }
 {
-    row.clear();
-    intake.take_many(rt, end, row);
-    if !row.is_empty() {
+    batch.clear();
+    intake.take_many(rt, end, batch);
+    if !batch.is_empty() {
         return true;
     }
     flush(rt, sender);
     counter.pause(rt);
     intake.spin();
-    intake.take_many(rt, end, row);
-    if !row.is_empty() {
+    intake.take_many(rt, end, batch);
+    if !batch.is_empty() {
         return true;
     }
-    intake.take(rt, end, row);
-    !row.is_empty()
+    intake.take(rt, end, batch);
+    !batch.is_empty()
 }
 
 // Gives these lists of replies to be sent, each by itself, with nothing of another worker's between, and tells the gate

@@ -1,10 +1,10 @@
 //! Workers of a session, whose orders are answered in memory.
 
+mod batches;
 mod came;
 mod handling;
 mod orders;
 mod refusals;
-mod rows;
 mod sending;
 mod tally;
 mod waiting;

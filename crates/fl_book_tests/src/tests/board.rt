@@ -4,8 +4,8 @@ ghost use Rattle.std.specs.Prelude.{◌≡◌, ◌<◌, ◌≤◌, true};
 ghost use Rattle.fl_core.specs.Tolds.{HasRoom};
 ghost use Rattle.fl_order.specs.Order.{only_reads};
 
+mod batches;
 mod looks;
-mod rows;
 mod threaded;
 
 use fl_book::{Ask, Board, BoardName, FreshLog, History, Lines, Rules, Seat, Verdict, check};

@@ -18,7 +18,7 @@ fn put_all<R: Wait + Abort>(rt: &R, intake: &Intake, put: &mut PutEnd, many: u64
     }
 }
 
-// What an end takes at once, into a row with room for so many, are these.
+// What an end takes at once, into a batch with room for so many, are these.
 pub(super) fn takes<R: Wait + Abort>(
     rt: &R,
     alloc: Global,
@@ -30,9 +30,9 @@ pub(super) fn takes<R: Wait + Abort>(
     requires { end.old.of ≡ intake.now }
     ensures { end.new.of ≡ intake.now }
 {
-    let mut row = Vec::with_capacity(alloc, room).expect(rt, "memory");
-    intake.take_many(rt, end, &mut row);
-    are_uniques(rt, row.as_slice(), wanted);
+    let mut batch = Vec::with_capacity(alloc, room).expect(rt, "memory");
+    intake.take_many(rt, end, &mut batch);
+    are_uniques(rt, batch.as_slice(), wanted);
 }
 
 // What an end takes alone is this one.
@@ -46,12 +46,12 @@ pub(super) fn takes_one<R: Wait + Abort>(
     requires { end.old.of ≡ intake.now }
     ensures { end.new.of ≡ intake.now }
 {
-    let mut row = Vec::with_capacity(alloc, 1).expect(rt, "memory");
-    intake.take(rt, end, &mut row);
-    are_uniques(rt, row.as_slice(), &[wanted]);
+    let mut batch = Vec::with_capacity(alloc, 1).expect(rt, "memory");
+    intake.take(rt, end, &mut batch);
+    are_uniques(rt, batch.as_slice(), &[wanted]);
 }
 
-// Of an intake with nine orders, two ends take in turn. What a row has no room for stays inside.
+// Of an intake with nine orders, two ends take in turn. What a batch has no room for stays inside.
 fn take_in_turn<R: Wait + Abort>(
     rt: &R,
     alloc: Global,

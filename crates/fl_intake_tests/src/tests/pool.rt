@@ -70,20 +70,20 @@ impl WorkerPool {
 }
 
 // Takes its share of the orders inside, or waits for one. None comes once the intake is closed and empty.
-fn next<R: Wait + Abort>(rt: &R, pool: &WorkerPool, end: &mut TakeEnd, row: &mut Vec<Order>)
-    requires { (end.old.of ≡ pool.now.intake) × (row.old.items ≡ []) × (0 < vec_capacity row.old) }
-    ensures { (end.new.of ≡ end.old.of) × (vec_capacity row.new ≡ vec_capacity row.old) }
+fn next<R: Wait + Abort>(rt: &R, pool: &WorkerPool, end: &mut TakeEnd, batch: &mut Vec<Order>)
+    requires { (end.old.of ≡ pool.now.intake) × (batch.old.items ≡ []) × (0 < vec_capacity batch.old) }
+    ensures { (end.new.of ≡ end.old.of) × (vec_capacity batch.new ≡ vec_capacity batch.old) }
 {
-    pool.intake.take_many(rt, end, row);
-    if row.is_empty() {
-        pool.intake.take(rt, end, row);
+    pool.intake.take_many(rt, end, batch);
+    if batch.is_empty() {
+        pool.intake.take(rt, end, batch);
     }
 }
 
-// Holds each order of a row, which is whole, and notes its unique.
-fn hold_all(rt: &impl Abort, pool: &WorkerPool, row: &[Order], uniques: &mut Vec<u64>) {
-    are_whole(rt, row);
-    for order in row {
+// Holds each order of a batch, which is whole, and notes its unique.
+fn hold_all(rt: &impl Abort, pool: &WorkerPool, batch: &[Order], uniques: &mut Vec<u64>) {
+    are_whole(rt, batch);
+    for order in batch {
         pool.hold(order.unique);
         uniques.push(order.unique).expect(rt, "memory");
     }
@@ -96,14 +96,14 @@ fn work<R: Wait + Abort>(rt: &R, pool: &WorkerPool, end: TakeEnd) -> Took
 {
     let mut end = end;
     let mut uniques = Vec::new(pool.alloc);
-    let mut row = Vec::with_capacity(pool.alloc, MOST_JOBS).expect(rt, "memory");
+    let mut batch = Vec::with_capacity(pool.alloc, MOST_JOBS).expect(rt, "memory");
     for _ in rt.forever() {
-        next(rt, pool, &mut end, &mut row);
-        if row.is_empty() {
+        next(rt, pool, &mut end, &mut batch);
+        if batch.is_empty() {
             break;
         }
-        hold_all(rt, pool, row.as_slice(), &mut uniques);
-        row.clear();
+        hold_all(rt, pool, batch.as_slice(), &mut uniques);
+        batch.clear();
     }
     Took { end, uniques }
 }

@@ -13,7 +13,7 @@ pub(super) struct Came {
     /// Those that were handed in.
     pub handed: Vec<Order>,
     /// How many were handed in together each time, with those that weren't taken then.
-    pub rows: Vec<u64>,
+    pub batches: Vec<u64>,
     /// The uniques of those that were looked for and shown.
     pub looked: Vec<u64>,
     /// What the worker told that went wrong.
@@ -26,7 +26,7 @@ pub(super) struct Wanted<'a> {
     /// The uniques of those that are handed in.
     pub handed: &'a [u64],
     /// How many are handed in together each time.
-    pub rows: &'a [u64],
+    pub batches: &'a [u64],
     /// The uniques of those that are looked for and shown.
     pub looked: &'a [u64],
     /// Some order is refused.
@@ -46,7 +46,7 @@ pub(super) fn is_wanted(
     wanted: &Wanted<'_>,
 ) {
     are_orders(rt, &came.handed, wanted.handed);
-    are_numbers(rt, &came.rows, wanted.rows);
+    are_numbers(rt, &came.batches, wanted.batches);
     are_numbers(rt, &came.looked, wanted.looked);
     have_failed(rt, came.failures, wanted.refused);
     are_replies(rt, &replies(rt, alloc, out), wanted.replies);
@@ -54,9 +54,9 @@ pub(super) fn is_wanted(
 }
 
 /// So many orders were handed in together each time, and nothing went wrong.
-pub(super) fn are_rows(rt: &impl Abort, came: &Came, rows: &[u64]) {
+pub(super) fn are_batches(rt: &impl Abort, came: &Came, batches: &[u64]) {
     have_failed(rt, came.failures, false);
-    are_numbers(rt, &came.rows, rows);
+    are_numbers(rt, &came.batches, batches);
 }
 
 // This says whether some order was refused, and nothing was lost.

@@ -42,7 +42,7 @@ pub(super) fn made(at: u64, op: Op) -> Order {
     }
 }
 
-/// So many LOOKUPs of a name that no file has. Their uniques stand in a row, from the first on.
+/// So many LOOKUPs of a name that no file has. Their uniques stand in a batch, from the first on.
 pub(super) fn lookups(rt: &impl Abort, alloc: Global, many: u64) -> Vec<Job> {
     let name = Name::new(b"a").expect(rt, "a name");
     let mut orders = Vec::new(alloc);

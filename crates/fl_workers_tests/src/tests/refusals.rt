@@ -27,7 +27,7 @@ ask 0 11 2 0 0 0 setlk 1 9 20 29 1 13 0
 // The lock is there still and the request is parked for good. ENOMEM is told to the lock and EAGAIN to the INTERRUPT.
 const REFUSED: Wanted<'static> = Wanted {
     handed: &[2, 3, 5, 6, 8, 9, 11],
-    rows: &[10, 7, 4, 1],
+    batches: &[10, 7, 4, 1],
     looked: &[],
     refused: true,
     replies: &[
@@ -46,7 +46,7 @@ const REFUSED: Wanted<'static> = Wanted {
 // The lock is given back, so nothing waits. The INTERRUPT finds no request.
 const TAKEN: Wanted<'static> = Wanted {
     handed: &[2, 3, 4, 5, 6, 7, 8, 9, 10, 11],
-    rows: &[10],
+    batches: &[10],
     looked: &[],
     refused: false,
     replies: &[
@@ -75,12 +75,12 @@ fn a_refused_order_is_told_so(rt: HostRuntime) {
 }
 
 // As many orders as are handed in together.
-const ROW: u64 = 16;
+const BATCH: u64 = 16;
 
-// All orders of a row but the one of this number.
+// All orders of a batch but the one of this number.
 fn but_one(rt: &impl Abort, alloc: Global, number: u64) -> Vec<u64> {
     let mut uniques = Vec::new(alloc);
-    for at in 0..ROW {
+    for at in 0..BATCH {
         if at + 1 != number {
             uniques.push(FIRST + at).expect(rt, "memory");
         }
@@ -88,10 +88,10 @@ fn but_one(rt: &impl Abort, alloc: Global, number: u64) -> Vec<u64> {
     uniques
 }
 
-// Each order of a row finds nothing, but for the one of this number, which is refused: ENOMEM.
-fn row_replies(rt: &impl Abort, alloc: Global, number: u64) -> Vec<Reply> {
+// Each order of a batch finds nothing, but for the one of this number, which is refused: ENOMEM.
+fn batch_replies(rt: &impl Abort, alloc: Global, number: u64) -> Vec<Reply> {
     let mut replies = Vec::new(alloc);
-    for at in 0..ROW {
+    for at in 0..BATCH {
         let error = if at + 1 == number { 12u32 } else { 2u32 };
         replies.push((FIRST + at, error)).expect(rt, "memory");
     }
@@ -101,13 +101,13 @@ fn row_replies(rt: &impl Abort, alloc: Global, number: u64) -> Vec<Reply> {
 // Those behind the one that is refused are handed in together.
 fn refuse_one<R: Wait + Abort>(rt: &R, alloc: Global, orders: &[Job], number: u64) {
     let handed = but_one(rt, alloc, number);
-    let replies = row_replies(rt, alloc, number);
-    let behind = ROW.saturating_sub(number);
-    let rows = [ROW, behind];
+    let replies = batch_replies(rt, alloc, number);
+    let behind = BATCH.saturating_sub(number);
+    let batches = [BATCH, behind];
     let times = if behind > 0 { 2 } else { 1 };
     let wanted = Wanted {
         handed: &handed,
-        rows: &rows[..times],
+        batches: &batches[..times],
         looked: &[],
         refused: true,
         replies: &replies,
@@ -121,9 +121,9 @@ fn refuse_one<R: Wait + Abort>(rt: &R, alloc: Global, orders: &[Job], number: u6
 }
 
 #[test]
-fn each_order_of_a_row_is_refused_alone(rt: HostRuntime) {
-    let orders = lookups(&rt, rt.alloc(), ROW);
-    for number in 1..=ROW {
+fn each_order_of_a_batch_is_refused_alone(rt: HostRuntime) {
+    let orders = lookups(&rt, rt.alloc(), BATCH);
+    for number in 1..=BATCH {
         refuse_one(&rt, rt.alloc(), &orders, number);
     }
 }

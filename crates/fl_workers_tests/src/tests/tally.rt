@@ -69,7 +69,7 @@ pub(super) struct Seat {
     /// The orders that were handed in, the oldest first.
     pub orders: Vec<Order>,
     /// How many orders were handed in together each time, with those that weren't taken then.
-    pub rows: Vec<u64>,
+    pub batches: Vec<u64>,
     /// The uniques of the orders that were looked for and shown, the oldest first.
     pub looks: Vec<u64>,
     tries: u64,
@@ -89,7 +89,7 @@ impl Seat {
         Seat {
             worker,
             orders: Vec::new(alloc),
-            rows: Vec::new(alloc),
+            batches: Vec::new(alloc),
             looks: Vec::new(alloc),
             tries: 0,
             core: Core::new(alloc, Rules::standard()).expect(rt, "memory"),
@@ -102,13 +102,13 @@ impl Seat {
     pub(super) fn came(self, failures: Failures) -> Came {
         let Seat {
             orders,
-            rows,
+            batches,
             looks,
             ..
         } = self;
         Came {
             handed: orders,
-            rows,
+            batches,
             looked: looks,
             failures,
         }
@@ -190,7 +190,7 @@ impl Counter for Tally {
         lists: &mut ToldLists,
     ) -> Result<(), HandFault> {
         lists.clear();
-        if !orders.is_empty() && seat.rows.push(orders.len() as u64).is_err() {
+        if !orders.is_empty() && seat.batches.push(orders.len() as u64).is_err() {
             return Err(HandFault::NoMemory);
         }
         for order in orders {

@@ -2,7 +2,7 @@
 
 ghost use Rattle.std.specs.Prelude.{◌≡◌, Some};
 
-use super::came::{Came, are_rows};
+use super::came::{Came, are_batches};
 use super::orders::lookups;
 use super::sending::{alone, begun, closed, opened};
 use super::tally::{Seat, WILLING};
@@ -10,7 +10,7 @@ use fl_core::Rules;
 use fl_intake::{Intake, Job, PutEnd, TakeEnd};
 use fl_log::{Appender, FreshLog};
 use fl_workers::{
-    OpenGate, Post, ReplyEntry, RowRoom, SharedSender, Worked, WriterName, worker_loop,
+    BatchRoom, OpenGate, Post, ReplyEntry, SharedSender, Worked, WriterName, worker_loop,
 };
 use std::alloc::Global;
 use std::marker::Brand;
@@ -76,7 +76,7 @@ fn taken_by<'w, N: WriterName, R: Wait + Abort>(
 ) -> (Came, Appender<N, ReplyEntry>)
     requires { end.of ≡ intake.now }
 {
-    let room = RowRoom::new(alloc, Rules::standard()).expect(rt, "memory");
+    let room = BatchRoom::new(alloc, Rules::standard()).expect(rt, "memory");
     let seat = Seat::new(rt, alloc, own.author());
     let Worked { post, failures, .. } = worker_loop(
         rt,
@@ -94,9 +94,9 @@ fn taken_by<'w, N: WriterName, R: Wait + Abort>(
 
 // A worker takes at most 16 at once, and hands them in together.
 #[test]
-fn what_waits_is_taken_in_rows(rt: HostRuntime) {
+fn what_waits_is_taken_in_batches(rt: HostRuntime) {
     let alloc = rt.alloc();
     let orders = lookups(&rt, alloc, 20);
     let came = taken(&rt, alloc, &orders);
-    are_rows(&rt, &came, &[16, 4]);
+    are_batches(&rt, &came, &[16, 4]);
 }

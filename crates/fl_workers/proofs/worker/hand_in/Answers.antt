@@ -1,7 +1,7 @@
 use Rattle.std.proofs.Common.{◌<◌, ◌≤◌, [], ◌∷◌, take, length, arith, refl, rules, subst, sym}
 use Rattle.fl_desk.specs.Asked.{Orders}
 use Rattle.fl_workers.proofs.HandedLemmas.{few_lists, lists_handed}
-use Rattle.fl_workers.proofs.RowLemmas.{take_read}
+use Rattle.fl_workers.proofs.BatchLemmas.{take_read}
 use Rattle.fl_workers.proofs.WorkedLemmas.{one_refused, then_worked}
 use Rattle.fl_workers.specs.Worked.{HasWorked, standing}
 use Rattle.fl_workers.proofs.worker.hand_in.Goals as goal

@@ -5,7 +5,7 @@ use Rattle.fl_workers.proofs.worker.worker_loop.Goals as goal
 pub loop-init : goal.loop-init
 loop-init g c = record {
   end = search rules;
-  row = search rules;
+  batch = search rules;
   room = search rules;
   done = none_done g.C.Counter.shows _ _ _ _ c.none-failures.ensures.0;
 }
@@ -13,10 +13,10 @@ loop-init g c = record {
 pub loop-preserved : goal.loop-preserved
 loop-preserved g c = record {
   end = search rules;
-  row = search rules;
+  batch = search rules;
   room = search rules;
   done = done_more g.C.Counter.shows _ _ _ c.deref.result.now _ _ _ _ _ _ _ _ _ c.or-failures.ensures
       c.loop.invariant.done
-      (c.next_row.ensures.taken ∙ ap (λ l. c.loop.end.taken ++ l) (sym c.deref.ensures.value))
+      (c.next_batch.ensures.taken ∙ ap (λ l. c.loop.end.taken ++ l) (sym c.deref.ensures.value))
       c.handle_all-more.ensures.did;
 }

@@ -1,4 +1,4 @@
-use Rattle.fl_board.proofs.Rows.{handed_in_answered, handed_same}
+use Rattle.fl_board.proofs.Batches.{handed_in_answered, handed_same}
 use Rattle.fl_board.proofs.counter.BoardCounter.hand_in_all.Goals as goal
 
 pub returns-clause-own : goal.returns-clause-own

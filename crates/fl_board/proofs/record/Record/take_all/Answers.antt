@@ -1,6 +1,6 @@
 use Rattle.std.proofs.Common.{rules, ◌≡◌, ◌<◌, ◌+◌, ◌++◌, ◌∷◌, [], length, length-append, ap, ◌∙◌, arith}
 use Rattle.std.proofs.Math.ListN.{get_or}
-use Rattle.fl_board.proofs.Rows.{handed_more}
+use Rattle.fl_board.proofs.Batches.{handed_more}
 use Rattle.fl_board.proofs.record.Record.take_all.Goals as goal
 
 pub loop-order-preserved : goal.loop-order-preserved

@@ -145,33 +145,33 @@ fn work<L: BoardName, R: Wait + Abort>(
 }
 
 // The seats of each thread.
-fn in_rows<L: BoardName>(
+fn in_batches<L: BoardName>(
     rt: &impl Abort,
     alloc: Global,
     seats: Vec<Seat<L>>,
     plan: Plan,
 ) -> Vec<Vec<Seat<L>>> {
     let mut seats = seats;
-    let mut rows = Vec::new(alloc);
+    let mut batches = Vec::new(alloc);
     for _ in 0..plan.threads {
         let at = seats.len().saturating_sub(plan.each as usize);
-        let row = seats.split_off(at).expect(rt, "memory");
-        rows.push(row).expect(rt, "memory");
+        let batch = seats.split_off(at).expect(rt, "memory");
+        batches.push(batch).expect(rt, "memory");
     }
-    rows
+    batches
 }
 
-// Each row works in a thread of its own, and the seats come back.
+// Each batch works in a thread of its own, and the seats come back.
 fn run<L: BoardName + Send + Sync, R: Threads + Wait + Sync + Abort>(
     pool: &WorkerPool<'_, L, R>,
-    rows: Vec<Vec<Seat<L>>>,
+    batches: Vec<Vec<Seat<L>>>,
 ) -> Vec<Seat<L>> {
-    let work = |row: Vec<Seat<L>>| work(pool, row);
-    let rows = thread::map_vec(pool.rt, rows, &work).expect(pool.rt, "memory");
+    let work = |batch: Vec<Seat<L>>| work(pool, batch);
+    let batches = thread::map_vec(pool.rt, batches, &work).expect(pool.rt, "memory");
     let mut back = Vec::new(pool.alloc);
-    for row in rows {
-        let mut row = row;
-        back.append(&mut row).expect(pool.rt, "memory");
+    for batch in batches {
+        let mut batch = batch;
+        back.append(&mut batch).expect(pool.rt, "memory");
     }
     back
 }
@@ -192,7 +192,7 @@ fn done<L: BoardName + Send + Sync, R: Threads + Wait + Sync + Abort>(
 ) -> Vec<Seat<L>> {
     let mut seats = seats;
     begin(pool, &mut seats);
-    run(pool, in_rows(pool.rt, pool.alloc, seats, pool.plan))
+    run(pool, in_batches(pool.rt, pool.alloc, seats, pool.plan))
 }
 
 fn closed<L: BoardName + Send + Sync, R: Threads + Wait + Sync + Abort>(

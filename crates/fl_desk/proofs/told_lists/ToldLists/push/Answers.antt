@@ -1,5 +1,5 @@
 use Rattle.std.proofs.Common.{rules, ◌≡◌, ◌++◌, ◌∷◌, [], length, refl}
-use Rattle.fl_desk.proofs.Rows.{lists_more}
+use Rattle.fl_desk.proofs.Batches.{lists_more}
 use Rattle.fl_desk.specs.declared.told_lists.Span.{Span}
 use Rattle.fl_desk.proofs.told_lists.ToldLists.push.Goals as goal
 

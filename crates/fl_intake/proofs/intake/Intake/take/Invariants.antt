@@ -3,4 +3,4 @@ use Rattle.fl_intake.proofs.intake.Intake.take.Given as goal
 
 abbrev pub invariant-loop : goal.invariant-loop
 invariant-loop g l = (l.end.of ≡ l.self) × (l.end.taken ≡ l.fn.end.taken)
-    × (l.row.items ≡ []) × (vec_capacity l.row ≡ vec_capacity l.fn.row)
+    × (l.batch.items ≡ []) × (vec_capacity l.batch ≡ vec_capacity l.fn.batch)

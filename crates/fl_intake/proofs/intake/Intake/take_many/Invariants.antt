@@ -2,5 +2,5 @@ use Rattle.std.proofs.Common.{◌≡◌, ◌≤◌, ◌++◌, length, vec_capaci
 use Rattle.fl_intake.proofs.intake.Intake.take_many.Given as goal
 
 abbrev pub invariant-loop : goal.invariant-loop
-invariant-loop g l = (l.end.of ≡ l.self) × (l.end.taken ≡ l.fn.end.taken ++ l.row.items)
-    × (vec_capacity l.row ≡ vec_capacity l.fn.row) × (length l.row.items ≤ l.counter)
+invariant-loop g l = (l.end.of ≡ l.self) × (l.end.taken ≡ l.fn.end.taken ++ l.batch.items)
+    × (vec_capacity l.batch ≡ vec_capacity l.fn.batch) × (length l.batch.items ≤ l.counter)

@@ -2,7 +2,7 @@ use Rattle.std.proofs.Common.{rules, ◌≡◌, ◌+◌, All, arith, ap, sym, su
 use Rattle.fl_board.specs.Seats.{Place}
 use Rattle.fl_serve.specs.Inside.Working.{IsFresh}
 use Rattle.fl_serve.proofs.ServingLemmas.{as_many, workers_of}
-use Rattle.fl_workers.specs.Room.{HasRowFor}
+use Rattle.fl_workers.specs.Room.{HasBatchFor}
 use Rattle.fl_serve.proofs.ready.Ready.new.Goals as goal
 
 pub posts_at-posts-requires-clause-rest : goal.posts_at-posts-requires-clause-rest
@@ -35,6 +35,6 @@ returns-clause-seats g c = workers_of (λ post. post.seat) _ _ c.posts_at-posts.
 pub returns-clause-ends : goal.returns-clause-ends
 returns-clause-ends g c = subst (All (IsFresh c.args.rooms.stock.intake)) (sym c.posts_at-posts.ensures.ends) c.requires.ends
 
-pub returns-clause-rows : goal.returns-clause-rows
-returns-clause-rows g c =
-    subst (All (HasRowFor (g.L.BoardName.rules.parked + 1))) (sym c.posts_at-posts.ensures.rows) c.requires.rows
+pub returns-clause-batches : goal.returns-clause-batches
+returns-clause-batches g c =
+    subst (All (HasBatchFor (g.L.BoardName.rules.parked + 1))) (sym c.posts_at-posts.ensures.batches) c.requires.batches

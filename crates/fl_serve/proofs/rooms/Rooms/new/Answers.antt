@@ -1,6 +1,6 @@
 use Rattle.std.proofs.Common.{◌+◌, All, subst}
 use Rattle.fl_waiting.specs.declared.rules.Rules.{Rules}
-use Rattle.fl_workers.specs.Room.{HasRoomFor, HasRowFor}
+use Rattle.fl_workers.specs.Room.{HasRoomFor, HasBatchFor}
 use Rattle.fl_serve.proofs.rooms.Rooms.new.Goals as goal
 
 pub returns-clause-left : goal.returns-clause-left
@@ -8,7 +8,7 @@ returns-clause-left g c =
     let P : Rules → Type 0 = λ by. HasRoomFor (by.parked + 1) c.in_ok-stock.stock.own.left in
     subst P c.requires.rules c.in_ok-stock.ensures.left
 
-pub returns-clause-rows : goal.returns-clause-rows
-returns-clause-rows g c =
-    let P : Rules → Type 0 = λ by. All (HasRowFor (by.parked + 1)) c.in_ok-stock.stock.each.rows.items in
-    subst P c.requires.rules c.in_ok-stock.ensures.rows
+pub returns-clause-batches : goal.returns-clause-batches
+returns-clause-batches g c =
+    let P : Rules → Type 0 = λ by. All (HasBatchFor (by.parked + 1)) c.in_ok-stock.stock.each.batches.items in
+    subst P c.requires.rules c.in_ok-stock.ensures.batches

@@ -6,7 +6,7 @@ use super::tally::{DARK, WILLING};
 use fl_testing::Reply;
 
 // The fourth and the seventh only read.
-const ROWS: &str = "\
+const BATCHES: &str = "\
 ask 0 2 1 0 0 0 create 0 420 61
 ask 0 3 2 0 0 0 setlk 1 7 0 9 1 11 0
 ask 0 4 2 0 0 0 setlk 1 8 20 29 1 12 0
@@ -20,7 +20,7 @@ const DONE: &[Reply] = &[(2, 0), (3, 0), (4, 0), (5, 0), (6, 0), (7, 0), (8, 0)]
 
 const SPLIT: Wanted<'static> = Wanted {
     handed: &[2, 3, 4, 6, 7],
-    rows: &[3, 2],
+    batches: &[3, 2],
     looked: &[5, 8],
     refused: false,
     replies: DONE,
@@ -30,7 +30,7 @@ const SPLIT: Wanted<'static> = Wanted {
 // Each that only reads is handed in with the next.
 const NOT_SPLIT: Wanted<'static> = Wanted {
     handed: &[2, 3, 4, 5, 6, 7, 8],
-    rows: &[3, 3, 1],
+    batches: &[3, 3, 1],
     looked: &[],
     refused: false,
     replies: DONE,
@@ -54,7 +54,7 @@ const LOCKED: &str =
 
 const SHOWN: Wanted<'static> = Wanted {
     handed: &[2, 4, 6],
-    rows: &[1, 1, 1],
+    batches: &[1, 1, 1],
     looked: &[3, 5, 7],
     refused: false,
     replies: REPLIES,
@@ -63,7 +63,7 @@ const SHOWN: Wanted<'static> = Wanted {
 
 const HANDED_IN: Wanted<'static> = Wanted {
     handed: &[2, 3, 4, 5, 6, 7],
-    rows: &[1, 2, 2, 1],
+    batches: &[1, 2, 2, 1],
     looked: &[],
     refused: false,
     replies: REPLIES,
@@ -71,14 +71,14 @@ const HANDED_IN: Wanted<'static> = Wanted {
 };
 
 #[test]
-fn what_only_reads_splits_a_row(rt: HostRuntime) {
-    comes_so(&rt, rt.alloc(), WILLING, ROWS, &SPLIT);
+fn what_only_reads_splits_a_batch(rt: HostRuntime) {
+    comes_so(&rt, rt.alloc(), WILLING, BATCHES, &SPLIT);
     comes_so(&rt, rt.alloc(), WILLING, READS, &SHOWN);
 }
 
 #[test]
 fn what_is_not_shown_is_handed_in(rt: HostRuntime) {
-    comes_so(&rt, rt.alloc(), DARK, ROWS, &NOT_SPLIT);
+    comes_so(&rt, rt.alloc(), DARK, BATCHES, &NOT_SPLIT);
     comes_so(&rt, rt.alloc(), DARK, READS, &HANDED_IN);
 }
 
@@ -92,7 +92,7 @@ ask 0 4 2 0 0 0 setlk 1 7 0 9 1 11 0
 // The last replies: no lock of bytes 0 to 9, and that it is set.
 const NOT_LOCKED: Wanted<'static> = Wanted {
     handed: &[2, 4],
-    rows: &[1, 1],
+    batches: &[1, 1],
     looked: &[3],
     refused: false,
     replies: &[(2, 0), (3, 0), (4, 0)],

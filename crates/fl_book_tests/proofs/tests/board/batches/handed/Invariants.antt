@@ -1,4 +1,4 @@
-use Rattle.fl_book_tests.proofs.tests.board.rows.handed.Given as goal
+use Rattle.fl_book_tests.proofs.tests.board.batches.handed.Given as goal
 
 abbrev pub ghosts-history_of-L-BoardName : goal.ghosts-history_of-L-BoardName
 ghosts-history_of-L-BoardName g a = record { workers = a.blank.parts; rules = a.rules }

@@ -1,4 +1,4 @@
-//! Rows of orders that are handed in at once.
+//! Batches of orders that are handed in at once.
 
 ghost use Rattle.std.specs.Prelude.{◌≡◌, ◌<◌, ◌≤◌, ◌+◌};
 ghost use Rattle.fl_core.specs.Tolds.{HasRoom};
@@ -13,12 +13,12 @@ use std::process::Abort;
 use std::sync::Wait;
 use std::sync::ledger::Blank;
 
-// A row that is handed in whole. It gets a list of replies for each order that was taken.
+// A batch that is handed in whole. It gets a list of replies for each order that was taken.
 fn hand_in<L: BoardName, R: Wait + Abort>(
     rt: &R,
     board: &Board<L, &R>,
     seat: &mut Seat<L>,
-    row: &[Order],
+    batch: &[Order],
     tolds: &mut Tolds,
     lists: &mut ToldLists,
 )
@@ -26,7 +26,7 @@ fn hand_in<L: BoardName, R: Wait + Abort>(
     requires lists { (L.rules.parked + 1 ≤ lists.old.room) × (0 < lists.old.places) }
 {
     let handed = board
-        .hand_in_all(rt, &NothingOutgoing, seat, row, tolds, lists)
+        .hand_in_all(rt, &NothingOutgoing, seat, batch, tolds, lists)
         .is_ok();
     assert!(rt; handed);
 }
@@ -39,14 +39,14 @@ fn counts_are(rt: &impl Abort, lists: &ToldLists, wanted: &[usize]) {
     }
 }
 
-// A row at the first seat, and how many replies each order was given.
+// A batch at the first seat, and how many replies each order was given.
 fn handed_in<L: BoardName, R: Wait + Abort>(
     rt: &R,
     alloc: Global,
     rules: Rules,
     board: &Board<L, &R>,
     seats: &mut [Seat<L>],
-    row: &[Order],
+    batch: &[Order],
     wanted: &[usize],
 )
     requires { rules ≡ L.rules }
@@ -54,18 +54,18 @@ fn handed_in<L: BoardName, R: Wait + Abort>(
     let mut tolds = new_tolds(rt, alloc, rules);
     let mut lists = ToldLists::new(alloc, rules).expect(rt, "memory");
     let seat = seats.first_mut().expect(rt, "a seat");
-    hand_in(rt, board, seat, row, &mut tolds, &mut lists);
+    hand_in(rt, board, seat, batch, &mut tolds, &mut lists);
     counts_are(rt, &lists, wanted);
 }
 
-// The history of a board of one seat that is handed in a row.
+// The history of a board of one seat that is handed in a batch.
 fn history_of<L: BoardName, R: Wait + Abort>(
     rt: &R,
     alloc: Global,
     blank: Blank,
     log: FreshLog<Ask>,
     rules: Rules,
-    row: &[Order],
+    batch: &[Order],
     wanted: &[usize],
 ) -> History
     requires named { (blank.name ≡ L.name) × (blank.parts ≡ L.parts) }
@@ -74,18 +74,18 @@ fn history_of<L: BoardName, R: Wait + Abort>(
     requires parts { (1 ≡ L.parts) × (L.workers ≡ L.parts) }
 {
     let (board, mut seats) = opened::<L, R>(rt, alloc, blank, log, 1, rules);
-    handed_in(rt, alloc, rules, &board, &mut seats, row, wanted);
+    handed_in(rt, alloc, rules, &board, &mut seats, batch, wanted);
     closed(rt, board, seats)
 }
 
-fn handed<R: Wait + Abort>(rt: &R, alloc: Global, row: &[Order], wanted: &[usize]) -> History {
+fn handed<R: Wait + Abort>(rt: &R, alloc: Global, batch: &[Order], wanted: &[usize]) -> History {
     let (blank, log, rules) = (Blank::new(1), FreshLog::new(), Rules::standard());
-    history_of::<Brand, _>(rt, alloc, blank, log, rules, row, wanted)
+    history_of::<Brand, _>(rt, alloc, blank, log, rules, batch, wanted)
 }
 
 #[test]
-fn a_row_ends_behind_sixteen(rt: HostRuntime) {
-    let row = [order(1, 1, Op::Getattr); 20];
-    let history = handed(&rt, rt.alloc(), &row, &[1; 16]);
+fn a_batch_ends_behind_sixteen(rt: HostRuntime) {
+    let batch = [order(1, 1, Op::Getattr); 20];
+    let history = handed(&rt, rt.alloc(), &batch, &[1; 16]);
     has_lines(&rt, &history, 32);
 }

@@ -1,4 +1,4 @@
--- A row of orders that was handed in.
+-- A batch of orders that was handed in.
 use Rattle.std.proofs.Common.{◌≡◌, ℕ, ◌+◌, ◌<◌, ◌≤◌, List, [], ◌∷◌, ◌++◌, length, refl, ap, sym, ◌∙◌, subst, arith}
 use Rattle.std.proofs.Math.ListN.{get_or}
 use Rattle.fl_board.proofs.Answering.{handed_in_last}
