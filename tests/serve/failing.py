@@ -14,7 +14,7 @@ import sys
 from tests import calls
 from tests.calls import ANY
 from tests.tries import INIT, INIT_REPLY, Server, each, message, replies, run
-from tests.serve.sessions_kit import ANSWERED, ANSWERS, ENDS, STREAM, errors_in, forget_each, lookups, stored, traced_by, whole_in
+from tests.serve.kit import ANSWERED, ANSWERS, ENDS, STREAM, errors_in, forget_each, lookups, stored, traced_by, whole_in
 
 EIO, EINTR, EAGAIN, ENOENT, ENOMEM, ECONNRESET = errno.EIO, errno.EINTR, errno.EAGAIN, errno.ENOENT, errno.ENOMEM, errno.ECONNRESET
 FORGET, INTERRUPT = 2, 36

@@ -8,7 +8,7 @@ from errno import EAGAIN, EBADF, EINVAL, ENAMETOOLONG, ENOENT, ENOSYS
 
 from tests import tries
 from tests.tries import INIT, INIT_REPLY, message
-from tests.serve.sessions_kit import Session, is_served, stored
+from tests.serve.kit import Session, is_served, stored
 
 # Each opcode of a message that is an order, or begins or ends a session.
 KINDS = 1, 2, 3, 10, 14, 18, 25, 26, 31, 32, 33, 35, 36, 38, 42

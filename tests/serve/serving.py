@@ -21,7 +21,7 @@ import time
 
 from tests import tries
 from tests.tries import CREATE, INIT, INIT_REPLY, Server, each, judged, lock, message, replies, setlk, take
-from tests.serve.sessions_kit import ANSWERED, ANSWERS, ENDS, STREAM, errors_in, forget_each, lookup, lookups, traced_by, whole_in
+from tests.serve.kit import ANSWERED, ANSWERS, ENDS, STREAM, errors_in, forget_each, lookup, lookups, traced_by, whole_in
 
 ENOENT, EBADF, EAGAIN, ENOMEM, ENOSYS = 2, 9, 11, 12, 38
 GETATTR, UNLINK, READ, RELEASE, GETLK, SETLK, SETLKW, INTERRUPT, DESTROY = 3, 10, 15, 18, 31, 32, 33, 36, 38

@@ -14,7 +14,7 @@ from tests import tries
 from tests.calls import noted
 from tests.tries import Server, each, message, run, take
 from tests.resume.kit import completed, marked
-from tests.serve.sessions_kit import ANSWERS, ENDS, INIT, SESSIONS, STREAM, WORKED, Session, forget_each, is_served, unique_of
+from tests.serve.kit import ANSWERS, ENDS, INIT, SESSIONS, STREAM, WORKED, Session, forget_each, is_served, unique_of
 
 # The most bytes of replies that go out together, and of one reply.
 ROOM, LONGEST = 672, 160
