@@ -4,9 +4,7 @@
 where there is none it says so, with status 77. Each function `try_..` is one thing that is tried. `tries.py` says how it ends.
 """
 import collections
-import errno
 import itertools
-import os
 import re
 import struct
 import sys
@@ -18,7 +16,7 @@ from tests import fuse
 from tests.calls import ANY
 from tests.fuse import INTERRUPT, NO_REPLY, destroy, lookup, node_of, reply, unique_of
 from tests.serve.kit import (
-    ANSWERED, ANSWERS, BAD, ENDS, ROOM, STREAM, WORKED, Plain, are_calls, does, errors_in, forget_each, lookups, orders_of, shortened, stored, talks,
+    ANSWERED, ANSWERS, BAD, ENDS, ROOM, STREAM, WORKED, Plain, are_calls, does, errors_in, forget_each, full, lookups, orders_of, shortened, stored, talks,
     traced_by, tracing, whole_in)
 from tests.tries import INIT, INIT_REPLY, Server, each, limited, replies, run
 
@@ -227,11 +225,10 @@ def try_a_trace_that_cannot_be_printed():
 
 def try_a_trace_that_cannot_be_written():
     """That is told behind the fault of the session, if it has one."""
-    why = f"{os.strerror(errno.EFBIG)} (os error {errno.EFBIG})"
     for workers, (behind, told), left in each_full_trace():
         server = tracing("file", workers=workers, before=limited(left))
         assert server.talk(SENT + behind) == REPLIED
-        assert server.ended() == (b"", f"cannot write {server.file}: {why}\n{told}trace failed\n", 2), (behind, left)
+        assert server.ended() == (b"", f"{full(server)}{told}trace failed\n", 2), (behind, left)
         assert begins(server.traced(), left), (behind, left)
 
 

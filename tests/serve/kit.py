@@ -2,10 +2,13 @@
 
 `tests/shims/calls.c` makes the calls of a server short, fails them and notes them. `tests/fuse.py` lays out messages and replies.
 """
+import errno
 import fcntl
 import itertools
 import os
 import re
+import resource
+import signal
 import socket
 import struct
 import termios
@@ -37,7 +40,7 @@ class Session:
 
     def is_plain(self):
         """It begins with its INIT, is no end by itself, and no unique comes twice."""
-        opcodes = [fuse.opcode_of(it) for it in self.messages]
+        opcodes = [int.from_bytes(it[4:8], "little") for it in self.messages]
         plain = opcodes[0] == INIT and DESTROY not in opcodes and not self.before
         return plain and len({*map(unique_of, self.messages)}) == len(opcodes)
 
@@ -280,6 +283,23 @@ def forget_each(unique, *nodes):
 
 # A length that no message has.
 BAD = struct.pack("<I", 39)
+
+
+# ---- a file that can't grow
+
+def ignores_signal():
+    """What a server does before it starts, so that a write over its limit fails."""
+    signal.signal(signal.SIGXFSZ, signal.SIG_IGN)
+
+
+def may_have(server, size=resource.RLIM_INFINITY):
+    """The server's files may have so many bytes."""
+    resource.prlimit(server.serving.pid, resource.RLIMIT_FSIZE, (size, resource.RLIM_INFINITY))
+
+
+def full(server):
+    """What is told of a trace's file that can't grow."""
+    return f"cannot write {server.file}: {os.strerror(errno.EFBIG)} (os error {errno.EFBIG})\n"
 
 
 # ---- what a server leaves

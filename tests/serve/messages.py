@@ -135,12 +135,13 @@ def after_an_init():
     yield from ((opcode, bytes(size), ENOSYS) for opcode in (0, 4, 15, 34, 43, 2**32 - 1) for size in (0, 16, 8152))
     for opcode, (size, named) in BODIES.items():
         if named:
-            names = [b"a", b"a\0b\0", b"a\0\0", b"\0\0", b"n" * 257, b"n" * 20 + b"\0" + b"n" * 235 + b"\0"]
+            names = [b"a", b"a\0b\0", b"a\0\0", b"\0\0", b"a" * 257, b"a" * 20 + b"\0" + b"a" * 235 + b"\0"]
             yield from ((opcode, body, EINVAL) for body in (b"", bytes(size)[:1], bytes(size)[:-1], bytes(size), *(bytes(size) + it for it in names)))
-            yield from ((opcode, bytes(size) + b"n" * length + b"\0", ENAMETOOLONG) for length in (256, 8151 - size))
+            yield from ((opcode, bytes(size) + b"a" * length + b"\0", ENAMETOOLONG) for length in (256, 8151 - size))
         else:
             sizes = {0, size - 1, size + 1, 8152} if opcode != BATCH_FORGET else {0, 7, 9, 23, 25, 8152}
-            yield from ((opcode, bytes([1]).ljust(it, b"\0")[:it], None if opcode in NO_REPLY else EINVAL) for it in sizes)
+            bodies = (bytes([first]).ljust(it, b"\0")[:it] for first in (0, 1) for it in sizes)
+            yield from ((opcode, body, None if opcode in NO_REPLY else EINVAL) for body in bodies)
     for count, pairs in (2, 1), (1, 2), (0, 1), (510, 509), (2**32 - 1, 1):
         yield BATCH_FORGET, struct.pack("<II", count, 0) + bytes(16 * pairs), None
 

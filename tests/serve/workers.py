@@ -4,13 +4,10 @@ It stands beside `tests/serve/sessions.py`, which a file has no room for. One wo
 `tries.py` says how it ends.
 """
 import collections
-import errno
 import os
 import random
 import re
-import resource
 import select
-import signal
 import sys
 import threading
 import time
@@ -20,7 +17,7 @@ from tests import tries
 from tests.fuse import (
     EAGAIN, EBADF, ENOENT, ENOMEM, ENOSYS, GETATTR, GETLK, INTERRUPT, NO_LOCK, READ, READ_LOCK, SETLK, SETLKW, WRITE_LOCK, create, destroy, getattr_,
     interrupt, lock_reply, lookup, reply, unique_of)
-from tests.serve.kit import Client, checked, errors_in, forget_each, orders_of, trace_of, tracing
+from tests.serve.kit import Client, checked, errors_in, forget_each, full, ignores_signal, may_have, orders_of, trace_of, tracing
 from tests.tries import INIT, INIT_REPLY, Server, lock, replies, setlk, take
 
 # How many mixed orders a server gets: `ORDERS=1000000 tests/run serve/workers try_mixed_orders` takes half a minute.
@@ -243,7 +240,7 @@ def try_requests_that_wait_have_no_reply():
 
 def try_lines_are_there_while_workers_sleep():
     """Each worker writes the lines of its orders when none is at hand."""
-    for workers in 2, 4, 16:
+    for workers in 1, 2, 4, 16:
         server = tracing("file", workers=workers)
         with Client(server) as client:
             client.begin()
@@ -256,15 +253,6 @@ def try_lines_are_there_while_workers_sleep():
         trace_of(server, "file", lines=2 * 641)
 
 
-def ignores_signal():
-    signal.signal(signal.SIGXFSZ, signal.SIG_IGN)
-
-
-def may_have(server, size):
-    """The server's files may have so many bytes."""
-    resource.prlimit(server.serving.pid, resource.RLIMIT_FSIZE, (size, resource.RLIM_INFINITY))
-
-
 def try_a_destroy_waits_for_an_order_that_is_held_up():
     """The lines of an order can't be written, so its reply waits. Other orders are refused meanwhile. A DESTROY behind them is read, and answered last."""
     for workers in 2, 4, 16:
@@ -273,13 +261,12 @@ def try_a_destroy_waits_for_an_order_that_is_held_up():
             client.begin()
             may_have(server, os.path.getsize(server.file))
             client.send(setlk(3))
-            full = f"cannot write {server.file}: {os.strerror(errno.EFBIG)} (os error {errno.EFBIG})\n"
-            assert server.tells() == full
+            assert server.tells() == full(server)
             client.send(*(lookup(it, b"none") for it in range(4, 24)), destroy(24))
             assert sorted(client.some(20)) == [reply(it, ENOMEM) for it in range(4, 24)]
             tries.wait_until(lambda: not client.unread())
             assert not select.select([client.socket], [], [], 0.3)[0]
-            may_have(server, resource.RLIM_INFINITY)
+            may_have(server)
             assert client.rest() == [reply(3), reply(24)]
         assert server.ended() == (b"", f"{server.file} is written again\n", 0)
         assert asked_in(checked(server.traced())) == [2, 3]
