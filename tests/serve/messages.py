@@ -192,7 +192,7 @@ def looks(first, links):
     who, mode, far = {"uid": 1, "gid": 2, "pid": 3}, 0o100640, LAST_BYTE - 1
 
     def asks(place, owner, start, end, kind):
-        return fuse.lock(GETLK, first + place, owner, start, end, kind, node=3, fh=2, pid=12, **who)
+        return message(GETLK, first + place, 3, fuse.lock_body(2, owner, start, end, kind, 12), **who)
 
     return [(getattr_(first, 3, **who), attr_reply(first, 3, mode, links, 1001, 2002)),
             (getattr_(first + 1, 2), attr_reply(first + 1, 2, 0o100777, 1, 0, 0)),
