@@ -9,6 +9,7 @@ import sys
 import threading
 import time
 
+from tests import fuse
 from tests import tries
 from tests.tries import fails_to_read, fills_up, run
 
@@ -401,7 +402,7 @@ def try_a_growing_trace():
         server = tries.Server("--trace", "{file}", workers=workers)
         with server.connect() as client:
             # One of several workers may take the lock before another has made its file.
-            for sent, size in (tries.INIT + tries.CREATE, 80 + 160), (tries.lock(32, 3, 7, 0, 1), 16):
+            for sent, size in (tries.INIT + tries.CREATE, fuse.INIT_SIZE + fuse.CREATE_SIZE), (tries.lock(fuse.SETLK, 3, 7, 0, WRITE), fuse.BARE_SIZE):
                 client.sendall(sent)
                 tries.take(client, size)
             # Before the load: several workers write their lines once they sleep, and may find no time to while orders come.
@@ -426,8 +427,8 @@ def load(client, over, more):
     """Locks and unlocks of owner 8, 64 at a time, some thousands a second, as many times as it is to."""
     unique = 4
     while more.acquire() and not over.is_set():
-        client.sendall(b"".join(tries.lock(32, it, 8, 9, 1 + it % 2) for it in range(unique, unique + 64)))
-        tries.take(client, 64 * 16)
+        client.sendall(b"".join(tries.lock(fuse.SETLK, it, 8, 9, 1 + it % 2) for it in range(unique, unique + 64)))
+        tries.take(client, 64 * fuse.BARE_SIZE)
         unique += 64
         time.sleep(0.01)
 

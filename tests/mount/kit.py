@@ -92,6 +92,13 @@ def listed(mount, *words):
     return subprocess.run([f"{TOP}/programs/lockd_locks", *words, mount.folder], capture_output=True, text=True, timeout=PATIENCE)
 
 
+def write_server(path, text):
+    """Writes a program in Python that stands for `lockd` at this path. It finds the modules of tests/."""
+    with open(path, "w", encoding="utf-8") as it:
+        it.write(f"#!{sys.executable} -B\nimport sys\nsys.path.insert(0, {TOP!r})\n{text}")
+    os.chmod(path, 0o700)
+
+
 def children_of(parent):
     """The processes that it has started, with their words."""
     for pid in filter(str.isdigit, os.listdir("/proc")):
