@@ -1,36 +1,27 @@
 """Tries `lockd serve --resume` of the built program: a server that is killed at each of its reads and writes, and goes on where it was.
 
 The client of `tests/resume/kit.py` sends again what has no reply. Each time its replies and the trace are those of a session that wasn't cut,
-byte for byte. `tests/shims/die.c` kills the server; it wants a C compiler. `tries.py` says how it ends. `DEATHS=1000 tests/resume/kills.py
+byte for byte. `tests/shims/calls.c` kills the server; it wants a C compiler. `tries.py` says how it ends. `DEATHS=1000 tests/resume/kills.py
 try_killed_again_and_again` kills up to a thousand servers at random calls.
 """
 import os
 import random
-import shutil
 import socket
-import subprocess
 import sys
-import tempfile
 from concurrent.futures import ThreadPoolExecutor
 
-from tests import tries
+from tests import calls
+from tests.calls import dying
 from tests.resume import kit
 from tests.fuse import (CREATE_SIZE, EAGAIN, EINVAL, ENOENT, ENOSYS, SETATTR, SETLK, SETLKW, UNIQUE_RESEND, batch_forget, forget, getattr_, interrupt, lookup,
                         made_of, message, sent_again)
-from tests.tries import CREATE, INIT, TOP, Server, judged, peak, replies, take
+from tests.tries import CREATE, INIT, Server, judged, peak, replies, take
 from tests.resume.kit import FEW, KILLED, LINES, READ, UNLOCK, WORKED, WRITE, Client, Gone, goes_on, is_stored, is_whole, locks, resuming
 
-WORK = tempfile.TemporaryDirectory(prefix="try-resumed-")
-SHIM = f"{WORK.name}/die.so"
 DEATHS = int(os.environ.get("DEATHS", "60"))
 
 
 # ---- a session that is cut
-
-def dying(number, how):
-    """The environment of a server that dies at its call of this number: before it, after it, or after half of it."""
-    return {**os.environ, "LD_PRELOAD": SHIM, "DIE_AT": str(number), "DIE_HOW": how}
-
 
 def is_cut(rows, *deaths):
     """The worked session, with servers that die so, one after the other, and one that doesn't. Says how many died."""
@@ -54,7 +45,7 @@ def at_each(rows, how):
     """Cuts the session at each call in turn, until there are no more. Says how many there are."""
     with ThreadPoolExecutor() as pool:
         for first in range(1, 10_000, 16):
-            died = [*pool.map(lambda it: is_cut(rows, (it, how)), range(first, first + 16))]
+            died = [*pool.map(lambda it: is_cut(rows, (how, it)), range(first, first + 16))]
             if not all(died):
                 return first - 1 + sum(died)
     raise AssertionError("there is no last one")
@@ -73,17 +64,17 @@ def try_each_death():
     """With a few messages under way, and with one. A row takes at least a read, a write of the file and one of the socket."""
     said = []
     for name, rows in ("in rows", WORKED), ("singly", kit.SINGLY):
-        for how, calls in ("before", 3), ("half", 2), ("after", 3):
+        for how, least in ("before", 3), ("half", 2), ("after", 3):
             count = at_each(rows, how)
-            assert count >= calls * len(WORKED), (name, how, count)
+            assert count >= least * len(WORKED), (name, how, count)
             said.append(f"{name} {count} {how}")
     return ", ".join(said)
 
 
 def try_each_death_while_it_resumes():
     """A server dies within a write, and the next one at each of its first calls."""
-    seconds = [*((it, "before") for it in range(1, 9)), *((it, "half") for it in range(1, 4))]
-    deaths = [((first, "half"), second) for first in range(1, 2 * len(WORKED), 2) for second in seconds]
+    seconds = [*(("before", it) for it in range(1, 9)), *(("half", it) for it in range(1, 4))]
+    deaths = [(("half", first), second) for first in range(1, 2 * len(WORKED), 2) for second in seconds]
     with ThreadPoolExecutor() as pool:
         died = [*pool.map(lambda it: is_cut(WORKED, *it), deaths)]
     assert died.count(2) > len(deaths) // 2, died
@@ -92,10 +83,14 @@ def try_each_death_while_it_resumes():
 
 def try_killed_again_and_again():
     """Servers that die at random calls, up to three in a session."""
+    def death(numbers, rows):
+        number = numbers.randrange(1, len(rows))
+        return numbers.choice(["before", "half", "after"]), number
+
     def cut(seed):
         numbers = random.Random(seed)
         rows = numbers.choice([WORKED, kit.SINGLY])
-        return is_cut(rows, *((numbers.randrange(1, len(rows)), numbers.choice(["before", "half", "after"])) for _ in range(3)))
+        return is_cut(rows, *(death(numbers, rows) for _ in range(3)))
 
     with ThreadPoolExecutor() as pool:
         died = sum(pool.map(cut, range(DEATHS // 3)))
@@ -253,14 +248,5 @@ def try_memory_stays():
     return f"kilobytes: {peaks[0]} to {peaks[1]}"
 
 
-def main():
-    compiler = shutil.which("cc")
-    if not compiler:
-        print("resume/kills: not tried: there is no C compiler", file=sys.stderr)
-        return tries.NOT_TRIED
-    subprocess.run([compiler, "-shared", "-fPIC", "-O1", "-o", SHIM, f"{TOP}/tests/shims/die.c"], check=True)
-    return tries.main("resume/kills", globals())
-
-
 if __name__ == "__main__":
-    sys.exit(main())
+    sys.exit(calls.main("resume/kills", globals()))
