@@ -108,7 +108,7 @@ def try_no_room_to_wait():
     answers(worked.no_room_to_wait(), quiet=False)
 
 
-def try_the_longest_name():
+def try_the_longest_name_of_a_file():
     answers(worked.longest_name())
     is_so(["script"], asks(worked.longest_name()).replace("420 61", "420 6161"), "", "bad line 1\n")
 
