@@ -433,7 +433,7 @@ FLOCK WRITE*       0                 EOF  43    12     90 42      old (deleted)
 """
 
 
-def try_a_list_by_hand():
+def try_names_and_far_bytes_in_a_list():
     """Names with bytes that are spelled, the last byte but one, and a file that was unlinked."""
     ran = run("locks", text=run("script", text=HELD.encode()).stdout)
     assert ran.stdout == TABLE, ran

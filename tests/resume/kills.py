@@ -234,7 +234,7 @@ def try_the_last_lines():
 
 # ---- memory
 
-def try_memory_stays():
+def try_memory_of_a_server_that_resumes():
     """A server that goes on behind many lines has as much memory as one behind few."""
     peaks = []
     for count in 40_000, 200_000:
