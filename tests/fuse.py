@@ -24,6 +24,8 @@ READ_LOCK, WRITE_LOCK, NO_LOCK = 0, 1, 2
 LAST_BYTE, LAST = 2**63 - 1, 2**64 - 1
 # A flag of a lock's body: it is one of flock(2). A flag of a RELEASE: it drops that of its owner. `O_EXCL` is a flag of a CREATE.
 LK_FLOCK, RELEASE_FLOCK_UNLOCK, O_EXCL, S_IFREG = 1, 2, 0o200, 0o100000
+# What a server says in its reply to an INIT: it has locks of both classes.
+POSIX_LOCKS, FLOCK_LOCKS = 1 << 1, 1 << 10
 # The bit of a unique that marks a message as sent again.
 UNIQUE_RESEND = 1 << 63
 
@@ -239,6 +241,11 @@ def opened_of(reply_):
 def lock_of(reply_):
     """The start, the end, the kind and the pid of a reply to a GETLK."""
     return struct.unpack_from("<QQII", reply_, REPLY_HEADER)
+
+
+def with_length(bytes_, length):
+    """The same message or reply, with a header that says another length."""
+    return struct.pack("<I", length) + bytes_[4:]
 
 
 def with_unique(bytes_, unique):
