@@ -138,10 +138,10 @@ def try_scripts_that_go_on():
     for title, trace in scripts():
         server = Server("--resume", "{file}", workers=None)
         told = server.talk(INIT + b"".join(bytes_of(it)[0] for it in orders_of(trace)))
-        wanted = re.sub(r"\b18446744073709551615\b", str(2**63 - 1), without_workers(trace))
+        wanted = re.sub(r"\b18446744073709551615\b", str(2**63 - 1), trace)
         assert told == INIT_REPLY + b"".join(bytes_of(it)[1] for it in orders_of(wanted)), (title, told)
         assert server.ended() == (b"", "", 0), title
-        assert without_workers(server.traced().decode()) == wanted, (title, server.traced())
+        assert without_workers(server.traced().decode()) == without_workers(wanted), (title, server.traced())
 
 
 # ---- stored sessions, whole and in pieces

@@ -1,7 +1,7 @@
 """Tries what only several workers of the built `lockd serve` show: that they answer as one would, that none leaves a reply behind, and how they wait.
 
-It stands beside `tests/serve/sessions.py`, which a file has no room for. One worker is tried here too if it shows what is wanted of several.
-`tries.py` says how it ends.
+These tries stand apart from `tests/serve/sessions.py`, because one file would be too long for both. Where one worker is tried beside several, it shows what
+these have to give, too. `tries.py` says how it ends.
 """
 import collections
 import os
