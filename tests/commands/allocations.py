@@ -163,7 +163,7 @@ def refuse_test(crate, name):
     """Refuses each allocation of a test, a built one. It tries again what says that there is no memory. So it ends well, and asks for more allocations
     than it does otherwise."""
     program = f"{TOP}/crates/{crate}/out/{crate}_tests"
-    if not ("LOCKD" in os.environ and os.access(program, os.X_OK)):
+    if not (os.environ.get("LOCKD") and os.access(program, os.X_OK)):
         subprocess.run(["rt", "test"], cwd=f"{TOP}/crates/{crate}", stdout=subprocess.DEVNULL, check=True)
 
     def allocations(number):

@@ -16,7 +16,6 @@ from tests.tries import CREATE, INIT, INIT_REPLY, Server, judged
 SILENT = {*fuse.NO_REPLY, INTERRUPT}
 READ, WRITE, UNLOCK = fuse.READ_LOCK, fuse.WRITE_LOCK, fuse.NO_LOCK
 KILLED = -signal.SIGKILL
-marked = sent_again
 
 
 # ---- messages
