@@ -79,7 +79,7 @@ def wait_until_idle(server, client):
         time.sleep(0.0002)
 
 
-def tells(server, trace, workers, together):
+def gets_the_replies(server, trace, workers, together):
     """A client of the server sends the orders of a trace, so many together, and gets the replies of the trace and no other. Of several workers each order
     was taken before the next is sent, also one that has no reply."""
     asked = [*map(bytes_of, orders_of(trace))]
@@ -96,11 +96,11 @@ def tells(server, trace, workers, together):
         assert client.rest() == []
 
 
-def tells_script(title, trace, way, workers, together):
+def script_is_served(title, trace, way, workers, together):
     """The script has its replies, and its trace is printed, goes to a file or nowhere."""
     try:
         server = tracing(way, workers=workers)
-        tells(server, trace, workers, together)
+        gets_the_replies(server, trace, workers, together)
         found = trace_of(server, way)
         wanted = [it for it in orders_of(trace) if workers == 1 or it.split()[6] not in LOOKS]
         assert found is None or without_workers(found) == "".join(wanted) and workers_of(found) <= {*range(workers)}, found
@@ -109,8 +109,8 @@ def tells_script(title, trace, way, workers, together):
 
 
 def are_served(scripts, *hows):
-    """Each script in each of these ways of tracing, with so many workers, so many messages together."""
-    each(tells_script, [(*script, *how) for how in hows for script in scripts])
+    """Each script, each time with a way of tracing, so many workers, and so many messages together."""
+    each(script_is_served, [(*script, *how) for how in hows for script in scripts])
     return f"{len(scripts)} scripts, {len(hows)} times"
 
 
