@@ -6,16 +6,15 @@
 set -eu
 . "$(dirname "$0")/../dev/built_lockd.sh"
 python3 - "$program" "$work" <<'END'
-import os, socket, struct, subprocess, sys, time
+import os, socket, subprocess, sys, time
+
+sys.dont_write_bytecode = True
+sys.path.insert(0, ".")
+from tests import fuse
+from tests.tries import CREATE, INIT
 
 PROGRAM, WORK = sys.argv[1:]
 SILENCE, PATIENCE = 2, 10
-
-def message(opcode, unique, node, body):
-    return struct.pack("<IIQQIIII", 40 + len(body), opcode, unique, node, 0, 0, 0, 0) + body
-
-INIT = message(26, 1, 0, struct.pack("<IIII", 7, 31, 0, 0))
-CREATE = message(35, 2, 1, struct.pack("<IIII", 0, 0o644, 0, 0) + b"a\0")
 
 # Tries again for a while, since the server may not listen yet.
 def connected(path):
@@ -36,7 +35,7 @@ def connected(path):
 def ask(client, sent, unique, size):
     client.sendall(sent)
     reply = client.recv(size, socket.MSG_WAITALL)
-    assert len(reply) == size and struct.unpack_from("<IiQ", reply) == (size, 0, unique), reply
+    assert len(reply) == size and fuse.errors(reply) == [(unique, 0)], reply
 
 # The process's name, in parentheses, may hold spaces; utime and stime are the 12th and 13th fields behind it.
 def used_ms(pid):
@@ -49,8 +48,8 @@ def idle_ms(workers):
     serving = subprocess.Popen([PROGRAM, "serve", path, "--workers", str(workers)], stdout=subprocess.DEVNULL)
     try:
         with connected(path) as client:
-            ask(client, INIT, 1, 80)
-            ask(client, CREATE, 2, 160)
+            ask(client, INIT, 1, fuse.INIT_SIZE)
+            ask(client, CREATE, 2, fuse.CREATE_SIZE)
             before = used_ms(serving.pid)
             time.sleep(SILENCE)
             used = used_ms(serving.pid) - before

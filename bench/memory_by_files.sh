@@ -4,25 +4,24 @@
 set -eu
 . "$(dirname "$0")/../dev/built_lockd.sh"
 LOCKD=$program python3 - <<'END'
-import struct, sys
+import sys
 
 sys.dont_write_bytecode = True
 sys.path.insert(0, ".")
-from tests.tries import INIT, Server, message, replies, take
+from tests import fuse
+from tests.fuse import BARE_SIZE, CREATE_SIZE, ENFILE, ENOLCK, ENOSPC, INIT_SIZE, OPEN_SIZE, SETLK, WRITE_LOCK
+from tests.tries import INIT, Server, replies, take
 
-AT_A_TIME, ENOSPC, ENFILE, ENOLCK = 64, 28, 23, 37
+AT_A_TIME = 64
 FILES = ["--files", "65536", "--open", "65536"]
 CASES = {"the standard rules": ([], 256, 1_024, 4_096), "65536 files and open files": (FILES, 65_536, 65_536, 4_096),
          "65536 files, open files and locks": ([*FILES, "--runs", "65536"], 65_536, 65_536, 65_536)}
 
 def create(unique, number):
-    return message(35, unique, 1, struct.pack("<IIII", 0, 0o644, 0, 0) + b"%d\0" % number)
-
-def open_(unique, number):
-    return message(14, unique, number, bytes(8))
+    return fuse.create(unique, b"%d" % number)
 
 def lock(unique, node, fh, byte):
-    return message(32, unique, node, struct.pack("<QQQQIIII", fh, 7, byte, byte, 1, 11, 0, 0))
+    return fuse.lock(SETLK, unique, 7, byte, byte, WRITE_LOCK, node, fh)
 
 def asked(client, messages, size):
     """The replies, of so many bytes each, to messages that all go well."""
@@ -38,13 +37,13 @@ def asked(client, messages, size):
 def megabytes(options, files, opens, runs, workers):
     server = Server("--trace", "none", *options, workers=workers)
     with server.connect() as client:
-        asked(client, [INIT], 80)
-        made = [struct.unpack_from("<Q120xQ", told, 16) for told in asked(client, [create(2 + it, it) for it in range(files)], 160)]
-        asked(client, [open_(2, made[it % files][0]) for it in range(opens - files)], 32)
-        asked(client, [lock(2, *made[it % files], 2 * (it // files)) for it in range(runs)], 16)
-        for one_more, error in (create(2, files), ENOSPC), (open_(2, made[0][0]), ENFILE), (lock(2, *made[0], 1 << 40), ENOLCK):
+        asked(client, [INIT], INIT_SIZE)
+        made = [*map(fuse.made_of, asked(client, [create(2 + it, it) for it in range(files)], CREATE_SIZE))]
+        asked(client, [fuse.open_(2, made[it % files][0]) for it in range(opens - files)], OPEN_SIZE)
+        asked(client, [lock(2, *made[it % files], 2 * (it // files)) for it in range(runs)], BARE_SIZE)
+        for one_more, error in (create(2, files), ENOSPC), (fuse.open_(2, made[0][0]), ENFILE), (lock(2, *made[0], 1 << 40), ENOLCK):
             client.sendall(one_more)
-            assert replies(take(client, 16)) == [(2, error)]
+            assert replies(take(client, BARE_SIZE)) == [(2, error)]
         with open(f"/proc/{server.serving.pid}/status", encoding="ascii") as it:
             held = next(int(line.split()[1]) for line in it if line.startswith("VmRSS"))
     assert server.ended()[1:] == ("", 0)

@@ -8,11 +8,12 @@
 set -eu
 . "$(dirname "$0")/../dev/built_lockd.sh"
 LOCKD=$program python3 - "${1:-100000}" <<'END'
-import itertools, struct, sys, threading
+import itertools, sys, threading
 
 sys.dont_write_bytecode = True
 sys.path.insert(0, ".")
-from tests.tries import INIT, Server, message, replies, take
+from tests import fuse
+from tests.tries import INIT, Server, replies, take
 
 ORDERS, RUNS, UNDER_WAY = int(sys.argv[1]), 5, 1_000
 SIZES = 16, 256, 4_096, 60_000
@@ -20,20 +21,32 @@ UNIQUES = itertools.count(2)
 STEP = 7_919
 
 # A message, and how many bytes its reply has.
-def named(opcode, number, size, body=b""):
-    return message(opcode, next(UNIQUES), 1, body + b"%d\0" % number), size
-
-def of_file(opcode, node, size, body):
-    return message(opcode, next(UNIQUES), node, body), size
-
 def create(number):
-    return named(35, number, 160, struct.pack("<IIII", 0, 0o644, 0, 0))
+    return fuse.create(next(UNIQUES), b"%d" % number), fuse.CREATE_SIZE
+
+def lookup(number):
+    return fuse.lookup(next(UNIQUES), b"%d" % number), fuse.ENTRY_SIZE
+
+def unlink(number):
+    return fuse.unlink(next(UNIQUES), b"%d" % number), fuse.BARE_SIZE
+
+def getattr_(node):
+    return fuse.getattr_(next(UNIQUES), node), fuse.ATTR_SIZE
+
+def open_(node):
+    return fuse.open_(next(UNIQUES), node), fuse.OPEN_SIZE
 
 def setlk(node, fh, owner, first):
-    return of_file(32, node, 16, struct.pack("<QQQQIIII", fh, owner, first, first + 9, 1, 11, 0, 0))
+    return fuse.lock(fuse.SETLK, next(UNIQUES), owner, first, first + 9, fuse.WRITE_LOCK, node, fh), fuse.BARE_SIZE
 
-def closing(opcode, node, fh, owner=0):
-    return of_file(opcode, node, 16, struct.pack("<QIIQ", fh, 0, 0, owner))
+def flush(node, fh, owner):
+    return fuse.flush(next(UNIQUES), node, fh, owner), fuse.BARE_SIZE
+
+def release(node, fh):
+    return fuse.release(next(UNIQUES), node, fh), fuse.BARE_SIZE
+
+def forget(node):
+    return fuse.forget(next(UNIQUES), node), 0
 
 class Served:
     """A server with so many files. Nodes and fhs are given in turn, so each is known before."""
@@ -42,7 +55,7 @@ class Served:
         self.size, self.file, self.node, self.fh = size, 0, 2 + size, 1 + size
         self.server = Server("--trace", "none", "--files", "65536", "--open", "65536", "--runs", "65536", workers=1)
         self.client = self.server.connect()
-        self.ask([(INIT, 80), *map(create, range(size)), *(setlk(2 + it, 1 + it, 7, 0) for it in range(size))])
+        self.ask([(INIT, fuse.INIT_SIZE), *map(create, range(size)), *(setlk(2 + it, 1 + it, 7, 0) for it in range(size))])
 
     def ask(self, messages):
         """Sends them, and takes the replies, which are all good."""
@@ -64,23 +77,22 @@ class Served:
         return range(self.fh - count, self.fh)
 
     def lookups(self):
-        return [named(1, it, 144) for it in self.files(UNDER_WAY)]
+        return [*map(lookup, self.files(UNDER_WAY))]
 
     def getattrs(self):
-        return [of_file(3, 2 + it, 120, bytes(16)) for it in self.files(UNDER_WAY)]
+        return [getattr_(2 + it) for it in self.files(UNDER_WAY)]
 
     def opens(self):
         files = [*self.files(UNDER_WAY // 2)]
-        return [of_file(14, 2 + it, 32, bytes(8)) for it in files] + [closing(18, 2 + it, fh) for it, fh in zip(files, self.opened(len(files)))]
+        return [open_(2 + it) for it in files] + [release(2 + it, fh) for it, fh in zip(files, self.opened(len(files)))]
 
     def locks(self):
-        return [it for file in self.files(UNDER_WAY // 2) for it in (setlk(2 + file, 1 + file, 8, 20), closing(25, 2 + file, 1 + file, 8))]
+        return [it for file in self.files(UNDER_WAY // 2) for it in (setlk(2 + file, 1 + file, 8, 20), flush(2 + file, 1 + file, 8))]
 
     def creates(self):
         found = []
         for number, fh in enumerate(self.opened(UNDER_WAY // 5), self.size):
-            unlinked = named(10, number, 16)
-            found += [create(number), setlk(self.node, fh, 7, 0), closing(18, self.node, fh), unlinked, of_file(2, self.node, 0, struct.pack("<Q", 1))]
+            found += [create(number), setlk(self.node, fh, 7, 0), release(self.node, fh), unlink(number), forget(self.node)]
             self.node += 1
         return found
 

@@ -13,14 +13,15 @@ apart='unshare --mount --propagation private --pid --fork --kill-child --mount-p
     exit 77
 }
 LOCKD=$(realpath "$program") $apart python3 - "$work" "${1:-1000}" <<'END'
-import os, shutil, struct, subprocess, sys
+import os, shutil, subprocess, sys
 
 sys.dont_write_bytecode = True
 sys.path.insert(0, ".")
-from tests.tries import CREATE, INIT, Server, lock, take
+from tests import fuse
+from tests.fuse import BARE_SIZE, CREATE_SIZE, GETLK, INIT_SIZE, NO_LOCK, SETLK, WRITE_LOCK
+from tests.tries import CREATE, INIT, Server, lock, replies, take
 
 WORK, LOCKS = sys.argv[1], int(sys.argv[2])
-GETLK, SETLK, WRITE, FREE = 31, 32, 1, 2
 HOLDER, OTHER = 7, 8
 
 
@@ -48,13 +49,13 @@ def known(folder):
     server = resumed(folder)
     with server.connect() as client:
         client.sendall(INIT)
-        take(client, 80)
+        take(client, INIT_SIZE)
         count = 0
         for at in range(LOCKS):
-            client.sendall(lock(GETLK, LOCKS + 3 + at, OTHER, at, WRITE))
-            size, error = struct.unpack("<Ii8x", take(client, 16))
-            body = take(client, size - 16)
-            count += error == 0 and struct.unpack_from("<16xI", body)[0] != FREE
+            client.sendall(lock(GETLK, LOCKS + 3 + at, OTHER, at, WRITE_LOCK))
+            head = take(client, BARE_SIZE)
+            reply = head + take(client, fuse.length_of(head) - len(head))
+            count += not fuse.error_of(reply) and fuse.lock_of(reply)[2] != NO_LOCK
     server.serving.kill()
     server.serving.wait()
     return count
@@ -66,10 +67,10 @@ def given(name, *options):
     server = resumed(folder)
     with server.connect() as client:
         client.sendall(INIT + CREATE)
-        take(client, 80 + 160)
+        take(client, INIT_SIZE + CREATE_SIZE)
         for at in range(LOCKS):
-            client.sendall(lock(SETLK, 3 + at, HOLDER, at, WRITE))
-            assert take(client, 16)[4:8] == bytes(4)
+            client.sendall(lock(SETLK, 3 + at, HOLDER, at, WRITE_LOCK))
+            assert replies(take(client, BARE_SIZE)) == [(3 + at, 0)]
         shutil.copyfile(disk, f"{disk}.copy")
         server.serving.kill()
         server.serving.wait()

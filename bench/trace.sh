@@ -16,7 +16,12 @@ cc -O2 -Wall -Wextra -o "$work/client" bench/peers/client.c
 desk=
 if [ "${1:-}" = --resume ]; then shift; else desk=$(bench/build history_bench); fi
 python3 - "$program" "$work" "${1:-1000000}" "$desk" <<'END'
-import itertools, os, socket, statistics, struct, subprocess, sys, time
+import itertools, os, socket, statistics, subprocess, sys, time
+
+sys.dont_write_bytecode = True
+sys.path.insert(0, ".")
+from tests.fuse import INIT_SIZE
+from tests.tries import INIT
 
 PROGRAM, WORK, MESSAGES, DESK = *sys.argv[1:3], int(sys.argv[3]), sys.argv[4]
 ROUNDS, LONGEST = 3, 300
@@ -25,7 +30,6 @@ NUMBER = itertools.count()
 MODES = {"none": lambda file: ["--trace", "none"], "file": lambda file: ["--trace", file], "printed": lambda file: [],
          "resume": lambda file: ["--resume", file]}
 WAYS = [(workers, mode) for workers in (1, 4) for mode in MODES if (workers, mode) != (4, "resume")]
-INIT = struct.pack("<IIQQIIIIIIII", 56, 26, 1, 0, 0, 0, 0, 0, 7, 31, 0, 0)
 
 # The most memory that a process had, in kilobytes, asked again and again until it ends. What wait4 says begins with the memory of
 # this script, which forked it.
@@ -77,7 +81,7 @@ def read_again():
         while client.connect_ex(path) and serving.poll() is None:
             time.sleep(0.001)
         client.sendall(INIT)
-        served = client.recv(80) and time.perf_counter() - begun
+        served = client.recv(INIT_SIZE) and time.perf_counter() - begun
     begun = time.perf_counter()
     with open(LINES, "rb") as trace:
         subprocess.run([PROGRAM, "check"], stdin=trace, stdout=subprocess.DEVNULL, timeout=LONGEST, check=True)

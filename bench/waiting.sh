@@ -13,11 +13,17 @@
 set -eu
 . "$(dirname "$0")/../dev/built_lockd.sh"
 python3 - "$program" "$work" <<'END'
-import os, struct, subprocess, sys
+import os, subprocess, sys
+
+sys.dont_write_bytecode = True
+sys.path.insert(0, ".")
+from tests import fuse
+from tests.tries import INIT, line_of
 
 PROGRAM, WORK = sys.argv[1:]
 WAITERS, ORDERS = 256, 20_000
-READ, WRITE, UNLOCK = 0, 1, 2
+READ, WRITE, UNLOCK = fuse.READ_LOCK, fuse.WRITE_LOCK, fuse.NO_LOCK
+OPCODES = {"setlk": fuse.SETLK, "setlkw": fuse.SETLKW}
 
 # An order is a node and what is asked there. The first open file of a node has its number less one.
 def lock(node, owner, start, end, kind, word="setlk", flags=0):
@@ -25,22 +31,20 @@ def lock(node, owner, start, end, kind, word="setlk", flags=0):
 
 def line(unique, node, asked):
     words = " ".join(str(word) for word in asked)
-    return f"ask 0 {unique} {node} 0 0 0 {words}"
+    return f"ask 0 {unique} {node} 0 0 0 {words}\n"
 
 def message(unique, node, asked):
-    if asked[0] == "create":
-        opcode, body = 35, struct.pack("<IIII", 0, 0o644, 0, 0) + bytes.fromhex(asked[3]) + b"\0"
-    else:
-        opcode, body = {"setlk": 32, "setlkw": 33}[asked[0]], struct.pack("<QQQQIIII", *asked[1:], 0)
-    return (struct.pack("<IIQQIIII", 40 + len(body), opcode, unique, node, 0, 0, 0, 0) + body).hex()
+    word, *words = asked
+    if word == "create":
+        return line_of(fuse.create(unique, bytes.fromhex(words[2])))
+    return line_of(fuse.message(OPCODES[word], unique, node, fuse.lock_body(*words)))
 
 def stored(name, command, orders):
-    hello = (struct.pack("<IIQQIIII", 56, 26, 0, 0, 0, 0, 0, 0) + struct.pack("<IIII", 7, 31, 0, 0)).hex()
-    spell, lines = (line, []) if command.startswith("script") else (message, [hello])
+    spell, lines = (line, []) if command.startswith("script") else (message, [line_of(INIT)])
     lines += [spell(i + 1, *order) for i, order in enumerate(orders)]
     path = f"{WORK}/{name}"
     with open(path, "w") as out:
-        out.write("\n".join(lines) + "\n")
+        out.write("".join(lines))
     return command, path
 
 def micros(command, path):

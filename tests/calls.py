@@ -1,4 +1,5 @@
-"""Makes the library of `calls.c`, by which a program's calls of some kinds are counted, move few bytes, fail and are noted."""
+"""Makes the library of `calls.c`, by which a program's calls of some kinds are counted, move few bytes, fail and are noted, and by which it dies at one."""
+import errno
 import itertools
 import os
 import shutil
@@ -19,6 +20,16 @@ def environment(notes="", **kinds):
     return {**os.environ, "LD_PRELOAD": LIBRARY, "NOTES": notes, **{kind: " ".join(map(str, it)) for kind, it in kinds.items()}}
 
 
+def refusing(number, counts=""):
+    """That of a program whose allocation of this number is refused, from 1, or none if it is 0. At its end this file says how many there were."""
+    return {**environment(allocate=[0, number, number, errno.ENOMEM]), "COUNTS": counts}
+
+
+def dying(how, number):
+    """That of a program that dies `before` its call of this number, `after` it, or after `half` of it: those of files and sockets alone count."""
+    return {**environment(), "DIES": f"{how} {number}"}
+
+
 def new_notes():
     return f"{WORK.name}/notes.{next(NUMBERS)}"
 
@@ -27,6 +38,11 @@ def noted(notes):
     """A line for each call: its kind, and how many bytes it moved, or minus its error."""
     with open(notes, encoding="ascii") as file:
         return file.read().splitlines()
+
+
+def allocations(counts):
+    """How many a program asked for, by the file that it left."""
+    return next(int(line.split()[1]) for line in noted(counts) if line.startswith("allocate "))
 
 
 def main(script, names):

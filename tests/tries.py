@@ -1,6 +1,6 @@
-"""What the scripts share that try the built program: the program, a server with a client of it, messages, and how tries are run.
+"""What the scripts share that try the built program: the program, a server with a client of it, its first messages, and how tries are run.
 
-A message's layout is that of `fuse.h` (protocol 7.31).
+`fuse.py` says how messages and replies are laid out.
 """
 import contextlib
 import os
@@ -9,13 +9,15 @@ import resource
 import select
 import signal
 import socket
-import struct
 import subprocess
 import sys
 import tempfile
 import time
 import weakref
 from concurrent.futures import ThreadPoolExecutor
+
+from tests import fuse
+from tests.fuse import message  # noqa: F401: scripts take it from here.
 
 TOP = os.path.dirname(os.path.dirname(os.path.realpath(__file__)))
 PROGRAM = os.path.realpath(os.environ.get("LOCKD", f"{TOP}/crates/lockd/out/lockd"))
@@ -28,23 +30,18 @@ def line_of(bytes_):
     return f"{bytes_.hex()}\n"
 
 
-def message(opcode, unique, node, body):
-    return struct.pack("<IIQQIIII", 40 + len(body), opcode, unique, node, 0, 0, 0, 0) + body
-
-
-INIT = message(26, 1, 0, struct.pack("<IIII", 7, 31, 0, 0))
-INIT_REPLY = struct.pack("<IiQIIIIHHII36x", 80, 0, 1, 7, 31, 0, 0, 16, 12, 4096, 1)
-CREATE = message(35, 2, 1, struct.pack("<IIII", 0, 0o644, 0, 0) + b"a\0")
+INIT, INIT_REPLY, CREATE = fuse.init(1), fuse.init_reply(1), fuse.create(2)
+replies = fuse.errors
 
 
 def lock(opcode, unique, owner, byte, kind):
     """GETLK, SETLK or SETLKW of one byte of the first file."""
-    return message(opcode, unique, 2, struct.pack("<QQQQIIII", 1, owner, byte, byte, kind, 11, 0, 0))
+    return fuse.lock(opcode, unique, owner, byte, byte, kind)
 
 
 def setlk(unique):
     """A write lock on byte 0 of the first file, or its unlock, in turn."""
-    return lock(32, unique, 7, 0, 1 + unique % 2)
+    return lock(fuse.SETLK, unique, 7, 0, 1 + unique % 2)
 
 
 def take(client, size):
@@ -56,18 +53,6 @@ def take(client, size):
             break
         found += more
     return bytes(found)
-
-
-def replies(bytes_):
-    """The uniques and error numbers of whole replies, in their order. A rest that is no whole reply is refused."""
-    found, at = [], 0
-    while at < len(bytes_):
-        assert at + 16 <= len(bytes_), "a cut reply"
-        size, error, unique = struct.unpack_from("<IiQ", bytes_, at)
-        assert 16 <= size <= 8192 and at + size <= len(bytes_), size
-        found.append((unique, -error))
-        at += size
-    return found
 
 
 def text_of(path):

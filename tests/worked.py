@@ -1,6 +1,5 @@
 """The worked scripts, as the traces that they give: those that are stored in `tests/cases/scripts.txt`, and those that reach the limits."""
 import re
-import sys
 
 from tests.tries import cases, text_of
 

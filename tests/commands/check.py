@@ -187,7 +187,7 @@ def try_first_lines():
             assert (found := in_pieces(bad + lines[0], most, *words)) == (b"", b"bad line 2\n", 2), (words, most, found)
 
 
-def try_reads_that_fail():
+def try_inputs_that_cannot_be_read():
     """A folder, a file that can't be read at its front, a connection that is reset behind a bad line: that is told, and nothing else."""
     for words in ["check"], ["check", "--cut", "--quiet"], ["script"]:
         for path in "/", "/proc/self/mem":

@@ -38,7 +38,7 @@ def try_scripts_in_pieces():
     return f"{len(found)} scripts, each in pieces of {len(SIZES)} sizes"
 
 
-def try_sessions_in_pieces():
+def try_hex_sessions_in_pieces():
     found = cases(text_of("tests/cases/bytes.txt"))
     assert len(found) == 20, len(found)
     for size in 1, 7, 100:
@@ -81,7 +81,7 @@ def reads_of(text):
     return -(-len(text) // 8) + 1
 
 
-def try_each_read_fails():
+def try_each_read_of_a_command_fails():
     """That is told, whatever came before, and nothing is printed."""
     count = 0
     for words, text in [*((words, text) for words, text, _ in EXAMPLES[:2]), *((words, it) for words in JUDGES for it in (THREE, "tell 1 ok\n", "x\n"))]:
@@ -92,7 +92,7 @@ def try_each_read_fails():
 
 
 def try_each_read_is_interrupted():
-    """It is tried again. That each of these is made is seen by `try_each_read_fails`."""
+    """It is tried again. That each of these is made is seen by `try_each_read_of_a_command_fails`."""
     for words, text, printed in EXAMPLES:
         for number in range(1, reads_of(text) + 1):
             ends(words, text, printed, most=8, reads=number, error=errno.EINTR)
@@ -134,7 +134,7 @@ def try_what_is_said_of_lines_in_pieces():
             ends(words, text, printed, told, status, most=size)
 
 
-def try_what_is_said_of_a_read_that_fails():
+def try_what_is_said_of_the_second_read():
     for option, why in ([], ""), (["-v"], "standard input can't be read: connection reset\n"):
         for command, text in ("script", asks(THREE)), ("bytes", INIT), ("check", THREE):
             ends([command, *option], text, "", f"read failed\n{why}", most=8, reads=2, error=errno.ECONNRESET)

@@ -11,6 +11,7 @@ import sys
 import tempfile
 from concurrent.futures import ThreadPoolExecutor
 
+from tests import fuse
 from tests import tries
 from tests import worked
 from tests.tries import cases, fails_to_read, fills_up, line_of, marked, run, text_of
@@ -107,7 +108,7 @@ def try_no_room_to_wait():
     answers(worked.no_room_to_wait(), quiet=False)
 
 
-def try_the_longest_name():
+def try_the_longest_name_of_a_file():
     answers(worked.longest_name())
     is_so(["script"], asks(worked.longest_name()).replace("420 61", "420 6161"), "", "bad line 1\n")
 
@@ -172,7 +173,7 @@ def try_sessions():
 
 def try_the_longest_message():
     """A LOOKUP of a name of 8,151 letters, in a message of 8,192 bytes: ENAMETOOLONG."""
-    lookup = tries.message(1, 2, 1, b"a" * 8151 + b"\0")
+    lookup = fuse.lookup(2, b"a" * 8151)
     is_so(["bytes"], INIT + line_of(lookup), f"{INIT_REPLY}10000000dcffffff0200000000000000\n")
 
 
@@ -414,7 +415,7 @@ def try_what_is_said_of_a_client_with_replies_unread():
 
 def try_what_is_said_of_a_session_that_its_client_does_not_end():
     """After a DESTROY or a message of a bad length the client is there. It has closed its end if it stops inside a message."""
-    for message, ends, close in ((tries.message(38, 9, 0, b""), "", False), (b"\x01" + INIT_BYTES[1:], "bad length 1\n", False), (INIT_BYTES[:20], "cut\n", True)):
+    for message, ends, close in ((fuse.destroy(9), "", False), (b"\x01" + INIT_BYTES[1:], "bad length 1\n", False), (INIT_BYTES[:20], "cut\n", True)):
         for workers in 1, 4:
             server = tries.Server("-v", workers=workers)
             with server.connect() as client:

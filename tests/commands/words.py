@@ -12,6 +12,7 @@ import sys
 import tempfile
 
 from tests import tries
+from tests.fuse import SETLK, SETLKW
 from tests.tries import CREATE, INIT, lock, run
 
 NOWHERE = "/nowhere/at/all"
@@ -208,16 +209,16 @@ def try_what_no_rules_do():
 
 def try_what_rules_do_in_bytes():
     """The script of `try_what_fair_does`, and the one of the limits, as messages: a reply is missing, or is ENOLCK."""
-    fair = INIT + CREATE + lock(32, 3, 7, 0, 0) + lock(33, 4, 8, 0, 1) + lock(33, 5, 9, 0, 0)
-    runs = INIT + CREATE + lock(32, 3, 7, 0, 1) + lock(32, 4, 7, 9, 1)
-    waits = INIT + CREATE + lock(32, 3, 7, 0, 1) + lock(33, 4, 8, 0, 1) + lock(33, 5, 9, 0, 1)
-    files = INIT + CREATE + CREATE.replace(b"a\0", b"b\0") + lock(32, 3, 7, 0, 1)
+    fair = INIT + CREATE + lock(SETLK, 3, 7, 0, 0) + lock(SETLKW, 4, 8, 0, 1) + lock(SETLKW, 5, 9, 0, 0)
+    runs = INIT + CREATE + lock(SETLK, 3, 7, 0, 1) + lock(SETLK, 4, 7, 9, 1)
+    waits = INIT + CREATE + lock(SETLK, 3, 7, 0, 1) + lock(SETLKW, 4, 8, 0, 1) + lock(SETLKW, 5, 9, 0, 1)
+    files = INIT + CREATE + CREATE.replace(b"a\0", b"b\0") + lock(SETLK, 3, 7, 0, 1)
     no_lock, ok, no_space, no_file = (f"10000000{error}" + "{:02x}00000000000000" for error in ("dbffffff", "00000000", "e4ffffff", "e9ffffff"))
     for stream, words, count, last in ((fair, [], 4, ok.format(5)), (fair, ["--fair"], 3, ok.format(3)),
                                        (runs, ["--runs", "1"], 4, no_lock.format(4)), (runs, ["--parked", "1"], 4, ok.format(4)),
                                        (waits, ["--parked", "1"], 4, no_lock.format(5)), (waits, ["--runs", "1"], 3, ok.format(3)),
-                                       (files[:-len(lock(32, 3, 7, 0, 1))], ["--files", "1"], 3, no_space.format(2)),
-                                       (files[:-len(lock(32, 3, 7, 0, 1))], ["--open", "1"], 3, no_file.format(2)), (files, [], 4, ok.format(3))):
+                                       (files[:-len(lock(SETLK, 3, 7, 0, 1))], ["--files", "1"], 3, no_space.format(2)),
+                                       (files[:-len(lock(SETLK, 3, 7, 0, 1))], ["--open", "1"], 3, no_file.format(2)), (files, [], 4, ok.format(3))):
         replies = run("bytes", *words, text=stream.hex().encode() + b"\n").stdout.decode().splitlines()
         assert (len(replies), replies[-1]) == (count, last), (words, replies)
 

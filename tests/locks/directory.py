@@ -1,16 +1,18 @@
 """Tries names, nodes and open files of the built `lockd` at several limits, beside a plain directory, by random orders.
 
+The directory has no locks, so it is no part of tests/model.py: there files never go, and here a FLUSH and a RELEASE only look at the open file.
+
 Half of the names collide: their hashes share one chain, whatever the limits. `tries.py` says how it ends.
 """
 import collections
 import itertools
 import random
 import sys
+from errno import EBADF, EEXIST, EINVAL, EISDIR, ENFILE, ENOENT, ENOSPC, ENOTDIR
 
 from tests import tries
 from tests.tries import run
 
-ENOENT, EBADF, EEXIST, ENOTDIR, EISDIR, EINVAL, ENFILE, ENOSPC = 2, 9, 17, 20, 21, 22, 23, 28
 ROOT, ORDERS = 1, 24_000
 
 
@@ -23,7 +25,7 @@ def refuse(if_so, error):
         raise Refused(error)
 
 
-class Plain:
+class Directory:
     """A directory by dictionaries. A node is a list of its lookups, name, mode, user and group."""
 
     def __init__(self, most_nodes, most_files):
@@ -121,11 +123,11 @@ def spelled(word):
     return word.hex() or "-" if isinstance(word, bytes) else str(word)
 
 
-def traced(plain, unique, node, user, op, *words):
+def traced(directory, unique, node, user, op, *words):
     """An order and what the plain directory replies, as lines."""
     asked = " ".join(map(spelled, ["ask 0", unique, node, *user, 0, op, *words]))
     try:
-        reply = getattr(plain, op)(node, user, *words)
+        reply = getattr(directory, op)(node, user, *words)
     except Refused as error:
         reply = f"err {error}"
     return asked + "\n", f"tell {unique} {reply}\n" if reply else ""
@@ -147,36 +149,36 @@ def colliding(count):
     return [b"".join(it) for it in itertools.islice(itertools.product(pair, repeat=14), count)]
 
 
-def of_names(numbers, plain, names):
+def of_names(numbers, directory, names):
     """An order of a name, mostly in the root."""
-    node = ROOT if numbers.random() < 0.95 else numbers.choice([*plain.nodes, plain.next_node])
+    node = ROOT if numbers.random() < 0.95 else numbers.choice([*directory.nodes, directory.next_node])
     name = numbers.choice(names)
     op = numbers.choice(["create"] * 8 + ["lookup", "unlink"])
     return (node, op, numbers.randrange(2), numbers.randrange(0o1000), name) if op == "create" else (node, op, name)
 
 
-def of_nodes(numbers, plain, _):
+def of_nodes(numbers, directory, _):
     """An order of a node, mostly of one that is there."""
-    node = numbers.choice([*plain.nodes, plain.next_node, ROOT])
+    node = numbers.choice([*directory.nodes, directory.next_node, ROOT])
     op = numbers.choice(["getattr", "open", "open", "forget", "forget"])
     return (node, op, numbers.randrange(4)) if op == "forget" else (node, op)
 
 
-def of_files(numbers, plain, _):
+def of_files(numbers, directory, _):
     """An order of an open file, mostly of one that is open, and of its node."""
-    fh = numbers.choice([*plain.files, plain.next_fh])
-    node = plain.files.get(fh, ROOT) if numbers.random() < 0.9 else numbers.choice([*plain.nodes, ROOT])
+    fh = numbers.choice([*directory.files, directory.next_fh])
+    node = directory.files.get(fh, ROOT) if numbers.random() < 0.9 else numbers.choice([*directory.nodes, ROOT])
     op = numbers.choice(["flush", "release", "release"])
     return (node, op, fh, *([0] if op == "release" else []), 7)
 
 
 def random_lines(numbers, most_nodes, most_files, names):
     """The lines of random orders, which fill the directory first and empty it at last."""
-    plain = Plain(most_nodes, most_files)
+    directory = Directory(most_nodes, most_files)
     for unique in range(1, ORDERS + 1):
         kinds = [of_names] if unique < ORDERS / 3 else [of_names, of_nodes, of_files] if unique < ORDERS * 3 / 4 else [of_nodes, of_files, of_files]
-        node, op, *words = numbers.choice(kinds)(numbers, plain, names)
-        yield from traced(plain, unique, node, (numbers.randrange(3), numbers.randrange(3)), op, *words)
+        node, op, *words = numbers.choice(kinds)(numbers, directory, names)
+        yield from traced(directory, unique, node, (numbers.randrange(3), numbers.randrange(3)), op, *words)
 
 
 def are_given(lines, *limits):
@@ -203,9 +205,9 @@ def near(numbers, following):
     return max(0, following - numbers.randrange(10))
 
 
-def of_late_numbers(numbers, plain):
+def of_late_numbers(numbers, directory):
     """An order of numbers that were given late, whether they are still there or not, through its own node mostly."""
-    node, fh, often = near(numbers, plain.next_node), near(numbers, plain.next_fh), numbers.randrange(8)
+    node, fh, often = near(numbers, directory.next_node), near(numbers, directory.next_fh), numbers.randrange(8)
     op = numbers.choice([["lookup", "lookup", "unlink", "unlink", "create", "create", "create"], ["getattr", "open", "open", "forget", "forget", "forget"],
                          ["flush", "release", "release"]][numbers.randrange(3)])
     if op in ("lookup", "unlink", "create"):
@@ -213,7 +215,7 @@ def of_late_numbers(numbers, plain):
         words = [int(numbers.randrange(3) == 0), numbers.randrange(0o1000)] if op == "create" else []
         return ROOT if often else node, op, *words, name
     if op in ("flush", "release"):
-        node = plain.files.get(fh, node) if often else node
+        node = directory.files.get(fh, node) if often else node
         return node, op, fh, *([numbers.randrange(2)] if op == "release" else []), numbers.randrange(2)
     return node, op, *([numbers.randrange(4)] if op == "forget" else [])
 
@@ -222,16 +224,16 @@ def try_numbers_that_are_gone():
     """At last each number that was given, and the next one, is asked for as a node, and as an open file on each node."""
     nodes, files = 0, 0
     for seed in range(60):
-        numbers, plain, lines = random.Random(seed), Plain(256, 1_024), []
+        numbers, directory, lines = random.Random(seed), Directory(256, 1_024), []
         for _ in range(500):
-            node, op, *words = of_late_numbers(numbers, plain)
-            lines += traced(plain, numbers.randrange(1_000), node, (numbers.randrange(3), numbers.randrange(3)), op, *words)
-        for node in range(plain.next_node + 1):
-            lines += traced(plain, 0, node, (5, 6), "getattr")
-            for fh in range(plain.next_fh + 1):
-                lines += traced(plain, 0, node, (5, 6), "flush", fh, 0)
+            node, op, *words = of_late_numbers(numbers, directory)
+            lines += traced(directory, numbers.randrange(1_000), node, (numbers.randrange(3), numbers.randrange(3)), op, *words)
+        for node in range(directory.next_node + 1):
+            lines += traced(directory, 0, node, (5, 6), "getattr")
+            for fh in range(directory.next_fh + 1):
+                lines += traced(directory, 0, node, (5, 6), "flush", fh, 0)
         are_given(lines)
-        nodes, files = nodes + plain.next_node - 2 - len(plain.nodes), files + plain.next_fh - 1 - len(plain.files)
+        nodes, files = nodes + directory.next_node - 2 - len(directory.nodes), files + directory.next_fh - 1 - len(directory.files)
     assert nodes > 200 and files > 1_500, (nodes, files)
     return f"{nodes} nodes were gone, and {files} open files"
 

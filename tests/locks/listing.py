@@ -1,7 +1,8 @@
-"""Tries `lockd locks` of the built program: lists written by hand, random traces beside a plain model, and the growing trace of a server under load.
+"""Tries `lockd locks` of the built program: lists written by hand, random traces beside a model, and the growing trace of a server under load.
 
-The model follows a trace by its replies alone. `tries.py` says how it ends.
+The model is that of tests/model.py, which carries out the orders of a trace. `tries.py` says how it ends.
 """
+import collections
 import json
 import random
 import subprocess
@@ -9,148 +10,51 @@ import sys
 import threading
 import time
 
+from tests import fuse
 from tests import tries
+from tests.model import LAST, READ, UNLOCK, WRITE, Model, firsts_of, order_of
 from tests.tries import fails_to_read, fills_up, run
 
-LAST = 2**63 - 1
-READ, WRITE, UNLOCK = 0, 1, 2
 HEADINGS = "TYPE", "MODE", "START", "END", "PID", "OWNER", "UNIQUE", "BLOCKER", "FILE"
 RIGHT = {"START", "END", "PID", "OWNER", "UNIQUE"}
 
 
-class Wish:
-    """A lock that is held or wanted: bytes of an owner on a node, both ends included."""
-
-    def __init__(self, node, flock, owner, start, end, kind, pid, unique=None, fh=None):
-        self.node, self.flock, self.owner, self.pid = node, flock, owner, pid
-        self.start, self.end, self.kind, self.unique, self.fh = start, end, kind, unique, fh
-
-    def key(self):
-        return self.node, self.flock, self.owner
-
-    def part(self, start, end):
-        return Wish(*self.key(), start, end, self.kind, self.pid)
-
-    def excludes(self, other):
-        """Whether the two are of two owners, on one file and of one class, share a byte, and one of them is for writing."""
-        return (self.key()[:2] == other.key()[:2] and self.owner != other.owner and self.start <= other.end and other.start <= self.end
-                and WRITE in (self.kind, other.kind))
+# A lock that is held, or a request that waits with its unique and with the owners and pids of those who keep it waiting.
+Row = collections.namedtuple("Row", "lock unique blockers")
 
 
-class Plain:
-    """What is there after lines: the runs of each owner, requests that wait, the name that each file was made under, unlinked files, and open files."""
-
-    def __init__(self, fair):
-        self.fair, self.runs, self.parked, self.names, self.unlinked, self.files = fair, {}, [], {}, set(), {}
-        self.wish, self.asked = None, None
-
-    # ---- one line
-
-    def hear(self, line):
-        words = line.split()
-        if words[0] == "ask":
-            self.ask(*words[2:4], *words[7:])
-        else:
-            self.tell(*words[1:])
-
-    def ask(self, unique, node, op, *words):
-        self.asked, self.wish = (unique, int(node), op, words), None
-        if op in ("setlk", "setlkw"):
-            fh, owner, start, end, kind, pid, flags = map(int, words)
-            if flags & 1:
-                start, end = 0, LAST
-            self.wish = Wish(int(node), flags & 1, owner, start, end, kind, pid, int(unique), fh)
-        if op == "setlkw":
-            # It waits, unless a reply of its own comes.
-            self.parked.append(self.wish)
-
-    def tell(self, unique, result, *words):
-        own, node, op, asked = self.asked
-        waits = next((it for it in self.parked if it.unique == int(unique)), None)
-        if waits:
-            self.parked.remove(waits)
-            if result == "ok":
-                self.set(waits)
-        elif unique == own and op == "setlk" and result == "ok":
-            self.set(self.wish)
-        elif unique == own:
-            self.done(node, op, asked, result, words)
-
-    def done(self, node, op, asked, result, words):
-        if result == "made":
-            self.names[int(words[0])] = bytes.fromhex(asked[2])
-            self.files[int(words[5])] = int(words[0])
-        elif result == "open":
-            self.files[int(words[0])] = node
-        elif result == "ok" and op == "unlink":
-            self.unlinked |= {it for it, name in self.names.items() if name.hex() == asked[0]}
-        elif result == "ok" and op == "flush":
-            self.drop(lambda it: it.key() == (node, 0, int(asked[1])))
-        elif result == "ok" and op == "release":
-            del self.files[int(asked[0])]
-            self.drop(lambda it: asked[1] == "1" and it.key() == (node, 1, int(asked[2])) or it.node == node and node not in self.files.values())
-
-    # ---- locks
-
-    def drop(self, test):
-        self.runs = {key: left for key, runs in self.runs.items() if (left := [it for it in runs if not test(it)])}
-
-    def set(self, wish):
-        """The bytes of the wish are cut out of the owner's runs, and are a run themselves, with those of the same kind and pid that touch it."""
-        runs, whole = [], wish.part(wish.start, wish.end)
-        for it in self.runs.get(wish.key(), []):
-            if wish.kind != UNLOCK and (it.kind, it.pid) == (wish.kind, wish.pid) and it.start <= wish.end + 1 and wish.start <= it.end + 1:
-                whole = whole.part(min(whole.start, it.start), max(whole.end, it.end))
-                continue
-            if it.start < wish.start:
-                runs.append(it.part(it.start, min(it.end, wish.start - 1)))
-            if wish.end < it.end:
-                runs.append(it.part(max(it.start, wish.end + 1), it.end))
-        self.runs[wish.key()] = sorted(runs + [whole] * (wish.kind != UNLOCK), key=lambda it: it.start)
-
-    # ---- the list
-
-    def name_of(self, node):
-        """The name that a file has, or None if it was unlinked."""
-        return None if node in self.unlinked else self.names[node]
-
-    def blockers(self, place):
-        """Those who hold what excludes a request, then under fair rules those who asked before it for what excludes it, each once, by owner."""
-        wish, found = self.parked[place], {}
-        for it in sorted((it for runs in self.runs.values() for it in runs), key=lambda it: it.start):
-            if it.excludes(wish):
-                found.setdefault(it.owner, it.pid)
-        for it in self.parked[:place] if self.fair and not wish.flock else []:
-            if it.excludes(wish):
-                found.setdefault(it.owner, it.pid)
-        return sorted(found.items())
-
-    def rows(self):
-        held = sorted((it for runs in self.runs.values() for it in runs), key=lambda it: (it.node, it.flock, it.start, it.owner))
-        rows = [(it, []) for it in held] + [(it, self.blockers(place)) for place, it in enumerate(self.parked)]
-        return sorted(rows, key=lambda row: row[0].node)
+def rows_of(model):
+    """What is listed: of each file the locks that are held, and then the requests that wait, the oldest first."""
+    rows = [Row(it, None, []) for it in model.locks()] + [Row(it, it.unique, model.blockers(it, place)) for place, it in enumerate(model.parked)]
+    return sorted(rows, key=lambda row: row.lock.node)
 
 
-def cells(plain, wish, blockers):
-    shown = "".join(chr(it) if 33 <= it <= 126 and it != 92 else f"\\x{it:02x}" for it in plain.names[wish.node])
-    shown += " (deleted)" * (plain.name_of(wish.node) is None)
-    return ["FLOCK" if wish.flock else "POSIX", ("READ", "WRITE")[wish.kind] + "*" * (wish.unique is not None), str(wish.start),
-            "EOF" if wish.end == LAST else str(wish.end), str(wish.pid), str(wish.owner), "-" if wish.unique is None else str(wish.unique),
-            ",".join(str(pid) for _, pid in blockers) or "-", shown]
+def name_of(model, node):
+    """The name that a file has, or None if it was unlinked."""
+    return None if node in model.unlinked else bytes.fromhex(model.names[node])
 
 
-def table(plain, rows):
-    lines = [HEADINGS, *(cells(plain, *row) for row in rows)]
+def cells(model, row):
+    it = row.lock
+    shown = "".join(chr(it) if 33 <= it <= 126 and it != 92 else f"\\x{it:02x}" for it in bytes.fromhex(model.names[it.node]))
+    shown += " (deleted)" * (it.node in model.unlinked)
+    return ["FLOCK" if it.flags else "POSIX", ("READ", "WRITE")[it.kind] + "*" * (row.unique is not None), str(it.start),
+            "EOF" if it.end == LAST else str(it.end), str(it.pid), str(it.owner), "-" if row.unique is None else str(row.unique),
+            ",".join(str(pid) for _, pid in row.blockers) or "-", shown]
+
+
+def table(model, rows):
+    lines = [HEADINGS, *(cells(model, row) for row in rows)]
     widths = [max(map(len, column)) for column in zip(*lines)]
     aligned = ([it.rjust(width) if head in RIGHT else it.ljust(width) for head, it, width in zip(HEADINGS, line, widths)][:-1] + [line[-1]]
                for line in lines)
     return "".join(" ".join(line) + "\n" for line in aligned)
 
 
-def objects(plain, rows):
-    return [{"type": "FLOCK" if it.flock else "POSIX", "mode": ("READ", "WRITE")[it.kind], "waits": it.unique is not None, "start": it.start, "end": it.end,
-             "pid": it.pid, "owner": it.owner, "unique": it.unique, "blockers": [{"owner": owner, "pid": pid} for owner, pid in blockers], "node": it.node,
-             "name": name.hex() if (name := plain.name_of(it.node)) is not None else None} for it, blockers in rows]
+def objects(model, rows):
+    return [{"type": "FLOCK" if it.flags else "POSIX", "mode": ("READ", "WRITE")[it.kind], "waits": unique is not None, "start": it.start, "end": it.end,
+             "pid": it.pid, "owner": it.owner, "unique": unique, "blockers": [{"owner": owner, "pid": pid} for owner, pid in blockers], "node": it.node,
+             "name": name.hex() if (name := name_of(model, it.node)) is not None else None} for it, unique, blockers in rows]
 
 
 def line_of(found):
@@ -158,13 +62,13 @@ def line_of(found):
 
 
 def after(lines, at, fair):
-    """What is there after the first lines of a trace, once the replies are told too that they lack."""
-    plain = Plain(fair)
-    for number, line in enumerate(lines):
-        if number >= at and line.startswith("ask "):
-            break
-        plain.hear(line)
-    return plain
+    """The model after the orders among the first lines of a trace, which have the replies of the trace."""
+    asked = [order_of(line) for line in lines if line.startswith("ask ")]
+    model, found = Model(firsts_of((words[5], words[6]) for words, _ in asked if words[2] in ("setlk", "setlkw")), fair), []
+    for words, who in asked[:sum(line.startswith("ask ") for line in lines[:at])]:
+        found += model.lines(*words, who=who)
+    assert found == lines[:len(found)], (found, lines)
+    return model
 
 
 def lists(trace, *words):
@@ -338,10 +242,10 @@ def try_at_each_line():
         rules = ["--fair"] * fair
         lines = traced(WORKED, *rules).splitlines(True)
         for at in range(len(lines) + 2):
-            plain = after(lines, at, fair)
-            assert lists("".join(lines).encode(), *rules, "--at", str(at)) == table(plain, plain.rows()), (fair, at)
+            model = after(lines, at, fair)
+            assert lists("".join(lines).encode(), *rules, "--at", str(at)) == table(model, rows_of(model)), (fair, at)
             cut = "".join(lines)[:len("".join(lines[:at])) + 3]
-            assert lists(cut.encode(), *rules) == table(plain, plain.rows()), (fair, at)
+            assert lists(cut.encode(), *rules) == table(model, rows_of(model)), (fair, at)
 
 
 # ---- beside the model ----
@@ -376,19 +280,19 @@ def try_2000_random_traces():
         text = random_trace(numbers, rules)
         lines = text.splitlines(True)
         at = numbers.choice([len(lines), numbers.randrange(len(lines))])
-        plain = after(lines, at, fair)
-        rows = plain.rows()
-        waiting += len(plain.parked)
-        held += len(rows) - len(plain.parked)
+        model = after(lines, at, fair)
+        rows = rows_of(model)
+        waiting += len(model.parked)
+        held += len(rows) - len(model.parked)
         words = [*rules, "--at", str(at)]
         if seed % 4 == 0:
             name = numbers.choice(["a", "be", " c"])
             words += ["--file", name]
-            rows = [row for row in rows if plain.name_of(row[0].node) == name.encode()]
+            rows = [row for row in rows if name_of(model, row.lock.node) == name.encode()]
         if seed % 3:
-            assert lists(text.encode(), *words, "--json") == line_of(objects(plain, rows)), (seed, at)
+            assert lists(text.encode(), *words, "--json") == line_of(objects(model, rows)), (seed, at)
         else:
-            assert lists(text.encode(), *words) == table(plain, rows), (seed, at)
+            assert lists(text.encode(), *words) == table(model, rows), (seed, at)
     assert held > 2_000 and waiting > 500, (held, waiting)
     return f"{held} locks and {waiting} that wait"
 
@@ -401,7 +305,7 @@ def try_a_growing_trace():
         server = tries.Server("--trace", "{file}", workers=workers)
         with server.connect() as client:
             # One of several workers may take the lock before another has made its file.
-            for sent, size in (tries.INIT + tries.CREATE, 80 + 160), (tries.lock(32, 3, 7, 0, 1), 16):
+            for sent, size in (tries.INIT + tries.CREATE, fuse.INIT_SIZE + fuse.CREATE_SIZE), (tries.lock(fuse.SETLK, 3, 7, 0, WRITE), fuse.BARE_SIZE):
                 client.sendall(sent)
                 tries.take(client, size)
             # Before the load: several workers write their lines once they sleep, and may find no time to while orders come.
@@ -426,8 +330,8 @@ def load(client, over, more):
     """Locks and unlocks of owner 8, 64 at a time, some thousands a second, as many times as it is to."""
     unique = 4
     while more.acquire() and not over.is_set():
-        client.sendall(b"".join(tries.lock(32, it, 8, 9, 1 + it % 2) for it in range(unique, unique + 64)))
-        tries.take(client, 64 * 16)
+        client.sendall(b"".join(tries.lock(fuse.SETLK, it, 8, 9, 1 + it % 2) for it in range(unique, unique + 64)))
+        tries.take(client, 64 * fuse.BARE_SIZE)
         unique += 64
         time.sleep(0.01)
 

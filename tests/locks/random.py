@@ -1,7 +1,7 @@
-"""Tries locks and waiting by the built `lockd`: random orders beside a plain program, which says all their replies. `script` has to give
-the same ones.
+"""Tries locks and waiting by the built `lockd`: random orders beside the model of tests/model.py, which says all their replies. `script` has to
+give the same ones.
 
-Random histories of fewer orders are judged too: whether they are quiet, a plain program says by their lines alone. Seeds are fixed.
+Random histories of fewer orders are judged too: whether they are quiet, a plain function says by their lines alone. Seeds are fixed.
 `tries.py` says how it ends.
 """
 import collections
@@ -10,10 +10,12 @@ import random
 import sys
 
 from tests import tries
+from tests.model import LAST, READ, RECORD, UNLOCK, WRITE, Model
 from tests.tries import run
-from tests.locks.random_kit import LAST, READ, RECORD, UNLOCK, WRITE, Plain, traced
 
 TURNS = 3_000
+# Locks begin and end within the first ten bytes, or end at the last byte.
+FIRSTS = range(11)
 
 
 def random_lock(numbers, owners, kind=None):
@@ -29,13 +31,13 @@ def random_lock(numbers, owners, kind=None):
     return it.values()
 
 
-def unique_of_parked(numbers, plain, other):
+def unique_of_parked(numbers, model, other):
     """The unique of a parked request, if there is one at a place that is drawn."""
     place = numbers.randrange(64)
-    return plain.parked[place].unique if place < len(plain.parked) else other
+    return model.parked[place].unique if place < len(model.parked) else other
 
 
-def random_file_op(numbers, plain, owners, fh):
+def random_file_op(numbers, model, owners, fh):
     """What is asked of an open file other than to lock or unlock."""
     draw, owner = numbers.randrange(13), numbers.randrange(owners)
     if draw < 3:
@@ -43,21 +45,21 @@ def random_file_op(numbers, plain, owners, fh):
     if draw == 3:
         return "release", fh, numbers.randrange(2), owner
     if draw < 9:
-        return "interrupt", unique_of_parked(numbers, plain, 7)
+        return "interrupt", unique_of_parked(numbers, model, 7)
     return ("getattr",) if draw == 9 else ("getlk", fh, *random_lock(numbers, owners))
 
 
-def random_op(numbers, plain, owners):
+def random_op(numbers, model, owners):
     """A node, and what is asked of it. Seldom the open file is another node's, or was closed, or isn't there yet."""
-    draw, opened = numbers.randrange(100), list(plain.files.items())
+    draw, opened = numbers.randrange(100), list(model.files.items())
     if draw < 4 or not opened:
-        node = 2 + numbers.randrange(plain.nodes)
-        return node, *(["open"] if list(plain.files.values()).count(node) < 3 else ["forget", 1])
+        node = 2 + numbers.randrange(len(model.names))
+        return node, *(["open"] if list(model.files.values()).count(node) < 3 else ["forget", 1])
     fh, node = numbers.choice(opened)
     if numbers.randrange(20) == 0:
-        fh, node = numbers.choice([(1, 2), (fh, 5 - node), (plain.next_fh, node)])
+        fh, node = numbers.choice([(1, 2), (fh, 5 - node), (model.next_fh, node)])
     if draw < 18:
-        return node, *random_file_op(numbers, plain, owners, fh)
+        return node, *random_file_op(numbers, model, owners, fh)
     if draw < 23:
         return node, "setlk", fh, *random_lock(numbers, owners)
     if draw < 50:
@@ -65,39 +67,44 @@ def random_op(numbers, plain, owners):
     return node, "setlkw", fh, *random_lock(numbers, owners)
 
 
-def random_lines(plain, seed, owners, files):
+def of_user(model, *order):
+    """The lines of an order of user 5 and group 6."""
+    return model.lines(*order, who=(5, 6))
+
+
+def random_lines(model, seed, owners, files):
     """The lines of random orders. After each comes a GETATTR with the unique of one that waits, or was just answered; after each twentieth one
     with each of these, and at last with all. It is refused as long as a request of the unique waits. Then all is closed."""
     numbers = random.Random(seed)
     for number in range(files):
-        yield from traced(plain, 1, 1, "create", 1, 0o644, f"{0x61 + number:x}")
+        yield from of_user(model, 1, 1, "create", 1, 0o644, f"{0x61 + number:x}")
     for turn in range(TURNS):
-        unique = unique_of_parked(numbers, plain, turn) if numbers.randrange(40) == 0 else turn
-        node, *op = random_op(numbers, plain, owners)
-        plain.counts["uniques refused"] += plain.is_parked(unique)
-        yield from traced(plain, unique, node, *op)
-        others = [unique, *(other for other, _ in plain.told), *(it.unique for it in plain.parked)]
+        unique = unique_of_parked(numbers, model, turn) if numbers.randrange(40) == 0 else turn
+        node, *op = random_op(numbers, model, owners)
+        model.counts["uniques refused"] += model.is_parked(unique)
+        yield from of_user(model, unique, node, *op)
+        others = [unique, *(other for other, _ in model.told), *(it.unique for it in model.parked)]
         for other in others if turn % 20 == 0 else [numbers.choice(others)]:
-            yield from traced(plain, other, 1, "getattr")
+            yield from of_user(model, other, 1, "getattr")
     for unique in range(TURNS):
-        yield from traced(plain, unique, 1, "getattr")
-    for fh, node in [*plain.files.items()]:
-        yield from traced(plain, LAST, node, "release", fh, 0, 0)
-    assert not plain.parked
+        yield from of_user(model, unique, 1, "getattr")
+    for fh, node in [*model.files.items()]:
+        yield from of_user(model, LAST, node, "release", fh, 0, 0)
+    assert not model.parked
 
 
-def options_of(plain):
-    return [*["--fair"][:plain.fair], "--runs", str(plain.most_runs), "--parked", str(plain.most_parked)]
+def options_of(model):
+    return [*["--fair"][:model.fair], "--runs", str(model.most_runs), "--parked", str(model.most_parked)]
 
 
-def answers(plain, seed, owners, files):
-    """`script` gives the replies of the plain program, whose trace is legal. Says how many lines it has."""
-    lines = [*random_lines(plain, seed, owners, files)]
-    ran = run("script", *options_of(plain), text="".join(it for it in lines if it.startswith("ask ")).encode())
+def answers(model, seed, owners, files):
+    """`script` gives the replies of the model, whose trace is legal. Says how many lines it has."""
+    lines = [*random_lines(model, seed, owners, files)]
+    ran = run("script", *options_of(model), text="".join(it for it in lines if it.startswith("ask ")).encode())
     assert (ran.stderr, ran.returncode) == (b"", 0), ran.stderr
     for at, (said, wanted) in enumerate(itertools.zip_longest(ran.stdout.decode().splitlines(True), lines), 1):
         assert said == wanted, (seed, at, said, wanted)
-    assert run("check", *options_of(plain), text="".join(lines).encode()).stdout == b"legal\n", seed
+    assert run("check", *options_of(model), text="".join(lines).encode()).stdout == b"legal\n", seed
     return len(lines)
 
 
@@ -105,9 +112,9 @@ def are_answered(seeds, least, owners=4, files=2, **rules):
     """So are the random orders of so many seeds. Each thing happens at least so often for each of them, counted together."""
     lines, counts = 0, collections.Counter()
     for seed in range(seeds):
-        plain = Plain(**rules)
-        lines += answers(plain, seed, owners, files)
-        counts += plain.counts
+        model = Model(FIRSTS, **rules)
+        lines += answers(model, seed, owners, files)
+        counts += model.counts
     few = {what: counts[what] for what, count in least.items() if counts[what] < count * seeds}
     assert not few, few
     assert rules.get("fair") or not counts["parked behind others alone"] + counts["freed by interrupts"], counts
@@ -190,28 +197,28 @@ def short_op(numbers, turn):
     return "setlk" if draw < 7 else "setlkw", *short_lock(numbers)
 
 
-def short_history(seed, plain):
+def short_history(seed, model):
     """The lines of a file made, and of 10 to 39 random orders. With an even seed no owner asks for a record lock while it waits for one."""
     numbers = random.Random(seed)
-    lines = traced(plain, 1, 1, "create", 1, 0o644, "61")
+    lines = of_user(model, 1, 1, "create", 1, 0o644, "61")
     for turn in range(2, 12 + numbers.randrange(30)):
         unique = turn - numbers.randrange(min(turn, 8)) if numbers.randrange(30) == 0 else turn
         op = short_op(numbers, turn)
         is_record = op[0] in ("setlk", "setlkw") and op[5] < UNLOCK and op[7] == RECORD
-        if seed % 2 == 0 and is_record and any((it.owner, it.flags) == (op[2], RECORD) for it in plain.parked):
+        if seed % 2 == 0 and is_record and any((it.owner, it.flags) == (op[2], RECORD) for it in model.parked):
             op = "setlk", *unlock(numbers)
-        lines += traced(plain, unique, 2, *op)
+        lines += of_user(model, unique, 2, *op)
     return lines
 
 
 def are_judged(fair, seeds):
-    """`check --quiet` says what the plain program does. A careful client's histories are all quiet, and most others aren't."""
+    """`check --quiet` says what the model does. A careful client's histories are all quiet, and most others aren't."""
     quiet = [0, 0]
     for seed in range(seeds):
-        plain = Plain(fair)
-        lines = short_history(seed, plain)
+        model = Model(FIRSTS, fair)
+        lines = short_history(seed, model)
         wanted = is_quiet(lines)
-        ran = run("check", "--quiet", *options_of(plain), text="".join(lines).encode())
+        ran = run("check", "--quiet", *options_of(model), text="".join(lines).encode())
         assert ran.stdout == (b"legal\nquiet\n" if wanted else b"legal\nnot quiet\n"), (seed, wanted, ran)
         quiet[seed % 2] += wanted
     assert quiet[0] == seeds // 2 and 0 < quiet[1] < seeds // 2 * 3 // 5, quiet

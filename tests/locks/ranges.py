@@ -1,4 +1,5 @@
-"""Tries the locks of the built `lockd` beside a plain grid of bytes: which are set and refused, which one a GETLK names, how many fit, and which are held then.
+"""Tries the locks of the built `lockd` beside the model of tests/model.py: which are set and refused, which one a GETLK names, how many fit, and which
+are held then.
 
 By cases written by hand, by random orders of few and many owners of several files, and by full tables. `tries.py` says how it ends.
 """
@@ -10,16 +11,15 @@ import re
 import sys
 
 from tests import tries
+from tests.fuse import EAGAIN, ENOLCK
+from tests.model import LAST, READ, RECORD, UNLOCK, WRITE, Model, order_of
 from tests.tries import judged, run
 
-READ, WRITE, UNLOCK = 0, 1, 2
-LAST = 2**63 - 1
-NO_ROOM, IN_THE_WAY = "err 37", "err 11"
+NO_ROOM, IN_THE_WAY = f"err {ENOLCK}", f"err {EAGAIN}"
 # A grid has a column for each of these bytes, which stands for those up to the next one too.
 FIRSTS = [*range(10), 1_000, 2**32, LAST - 3, LAST - 2, LAST - 1, LAST]
 ENDS = [*(it - 1 for it in FIRSTS[1:]), LAST]
 COLUMNS = range(len(FIRSTS))
-NO_MARKS = [None for _ in COLUMNS]
 STRANGER = 1_000_000
 
 
@@ -93,65 +93,37 @@ def held_after(trace, *words):
 
 # ---- the grid ----
 
-def runs_of(row):
-    """The locks of a row: as many columns side by side as have one mark."""
-    groups = [(mark, [*columns]) for mark, columns in itertools.groupby(COLUMNS, row.__getitem__)]
-    return [(FIRSTS[columns[0]], ENDS[columns[-1]], *mark) for mark, columns in groups if mark]
-
-
 class Grid(Orders):
-    """For each file and class the rows of its owners, and for each column of a row its mark: a kind and a pid, or none."""
+    """Orders whose replies the model says, of locks that begin and end with a column."""
 
     def __init__(self, room):
         super().__init__(room)
-        self.runs, self.rows = 0, collections.defaultdict(dict)
+        self.model = Model(FIRSTS, runs=room)
 
-    def owners_in_the_way(self, node, flock, owner, column, kind):
-        return [it for it, row in self.rows[node, flock].items() if it != owner and row[column] and WRITE in (kind, row[column][0])]
+    def order(self, node, op, *_):
+        self.unique += 1
+        words, who = order_of(f"ask 0 {self.unique} {node} 0 0 0 {op}")
+        self.lines += self.model.lines(*words, who=who)
+        self.counts.update(reply for _, reply in self.model.told)
 
     def set(self, node, flock, owner, columns, mark):
-        """The columns get the mark, or lose theirs: if no lock of another owner is in the way, and there is room for what is held then."""
-        old = self.rows[node, flock].get(owner, NO_MARKS)
-        new = [mark if it in columns else old[it] for it in COLUMNS]
-        runs = self.runs + len(runs_of(new)) - len(runs_of(old))
-        if mark and any(self.owners_in_the_way(node, flock, owner, it, mark[0]) for it in columns):
-            reply = IN_THE_WAY
-        elif runs > self.room:
-            reply = NO_ROOM
-        else:
-            reply, self.runs, self.rows[node, flock][owner] = "ok", runs, new
-        self.setlk(node, owner, FIRSTS[columns[0]], ENDS[columns[-1]], *(mark or (UNLOCK, 0)), reply, flock)
+        """The columns get the mark, which is a kind and a pid, or lose theirs."""
+        self.setlk(node, owner, FIRSTS[columns[0]], ENDS[columns[-1]], *(mark or (UNLOCK, 0)), flock=flock)
 
     def get(self, node, owner, columns, kind):
-        """The lock that is named is in the way at the first column where one is. It is that of the least owner there."""
-        found = ((it, owners) for it in columns if (owners := self.owners_in_the_way(node, 0, owner, it, kind)))
-        column, owners = next(found, (None, None))
-        named = owners and next(it for it in runs_of(self.rows[node, 0][min(owners)]) if it[0] <= FIRSTS[column] <= it[1])
-        self.getlk(node, owner, FIRSTS[columns[0]], ENDS[columns[-1]], kind, named)
-        return named and (min(owners), column)
-
-    def drop(self, node, flock, owner):
-        self.runs -= len(runs_of(self.rows[node, flock].pop(owner, NO_MARKS)))
+        self.getlk(node, owner, FIRSTS[columns[0]], ENDS[columns[-1]], kind)
 
     def flush(self, node, owner):
-        self.drop(node, 0, owner)
         self.order(node, f"flush {self.fhs[node]} {owner}")
 
     def unlock_file(self, node, owner):
         """Through another open file, which is closed."""
-        self.drop(node, 1, owner)
         self.order(node, f"release {self.open(node)} 1 {owner}")
 
     def close(self, node):
         """The only open file goes, and with it all locks. Another one is opened."""
-        for flock, owner in [(flock, owner) for flock in (0, 1) for owner in self.rows[node, flock]]:
-            self.drop(node, flock, owner)
         self.order(node, f"release {self.fhs[node]} 0 0")
         self.fhs[node] = self.open(node)
-
-    def held(self):
-        return sorted((node, flock, start, owner, end, kind, pid) for (node, flock), rows in self.rows.items() for owner, row in rows.items()
-                      for start, end, kind, pid in runs_of(row))
 
     def refused(self):
         return f"{self.counts['ok']} orders done, {self.counts[IN_THE_WAY]} with a lock in the way, {self.counts[NO_ROOM]} without room"
@@ -188,7 +160,7 @@ def try_what_is_in_the_way():
         grid.set(node, 0, owner, random_columns(numbers), random_mark(numbers, owners[owner]))
         for end, asker, kind in itertools.product(COLUMNS[step % 16:], owners, (READ, WRITE)):
             grid.get(node, asker, range(step % 16, end + 1), kind)
-    grid.is_told(grid.held())
+    grid.is_told(grid.model.locks())
     return f"{grid.unique - 401} answers"
 
 
@@ -203,7 +175,7 @@ def try_random_locks_of_both_classes():
             if step % 5 == 0:
                 for node, kind, owner in itertools.product(nodes, (READ, WRITE), (1, 2, STRANGER)):
                     grid.get(node, owner, random_columns(numbers), kind)
-        grid.is_told(grid.held(), "--files", "3")
+        grid.is_told(grid.model.locks(), "--files", "3")
         assert (grid.counts[NO_ROOM] > 0) == (room < 4_096) and grid.counts[IN_THE_WAY] > 0, grid.refused()
         total += grid.counts
         if room < 4_096:
@@ -214,10 +186,10 @@ def try_random_locks_of_both_classes():
 def take_all(grid, node):
     """At each column the lock that keeps a stranger from writing is named, and goes, until none is left."""
     for column in COLUMNS:
-        while named := grid.get(node, STRANGER, [column], WRITE):
-            row = grid.rows[node, 0][named[0]]
-            end = next((it for it in COLUMNS[column:] if row[it] != row[column]), len(COLUMNS))
-            grid.set(node, 0, named[0], range(column, end), None)
+        grid.get(node, STRANGER, [column], WRITE)
+        while named := next((it for it in grid.model.locks() if it.flags == RECORD and it.start <= FIRSTS[column] <= it.end), None):
+            grid.setlk(node, named.owner, FIRSTS[column], named.end, UNLOCK, 0)
+            grid.get(node, STRANGER, [column], WRITE)
 
 
 def try_few_and_many_owners():
@@ -231,10 +203,10 @@ def try_few_and_many_owners():
         for owner in range(max(count, 16)):
             for last, kind in itertools.product((owner % 16, 15), (READ, WRITE)):
                 grid.get(node, owner, range(owner % 16, last + 1), kind)
-        grid.is_told(grid.held())
+        grid.is_told(grid.model.locks())
         take_all(grid, node)
-        assert not any(any(row) for row in grid.rows[node, 0].values())
-        grid.is_told(grid.held())
+        assert all(lock.flags != RECORD for lock in grid.model.locks())
+        grid.is_told(grid.model.locks())
         total += grid.counts
     assert total[IN_THE_WAY] > 500 and total[NO_ROOM] > 50, total
     return f"{total['ok']} orders done, {total[IN_THE_WAY]} with a lock in the way, {total[NO_ROOM]} without room"
@@ -461,7 +433,7 @@ FLOCK WRITE*       0                 EOF  43    12     90 42      old (deleted)
 """
 
 
-def try_a_list_by_hand():
+def try_names_and_far_bytes_in_a_list():
     """Names with bytes that are spelled, the last byte but one, and a file that was unlinked."""
     ran = run("locks", text=run("script", text=HELD.encode()).stdout)
     assert ran.stdout == TABLE, ran

@@ -8,6 +8,7 @@ import itertools
 import re
 import sys
 
+from tests import fuse
 from tests import tries
 from tests.tries import cases, marked, run, text_of
 
@@ -294,10 +295,9 @@ def try_the_standard_limits():
 
 def try_a_mode_past_the_permissions():
     """Of a CREATE's mode of octal 107777 the permissions count, and the file is of its user and group, who or whoever finds it later."""
-    create = tries.message(35, 2, 1, (0).to_bytes(4, "little") + (0o107777).to_bytes(4, "little") + bytes(8) + b"a\0")
-    replies = run("bytes", text=(tries.line_of(tries.INIT) + tries.line_of(create)).encode()).stdout.decode().split()
-    mode = bytes.fromhex(replies[1])[16 + 40 + 60:][:4]
-    assert int.from_bytes(mode, "little") == 0o100777, replies
+    sent = tries.line_of(tries.INIT) + tries.line_of(fuse.create(2, mode=0o107777))
+    replies = run("bytes", text=sent.encode()).stdout.decode().splitlines(True)
+    assert replies[1:] == [tries.line_of(fuse.create_reply(2, 2, 0o100777, 1, 0, 0, 1))], replies
 
 
 if __name__ == "__main__":

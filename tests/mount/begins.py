@@ -1,10 +1,11 @@
 """How a mount begins, what is refused, and servers that do what none should."""
-import os, re, shutil, signal, socket, subprocess, sys, tempfile, time
+import os, re, shutil, signal, socket, subprocess, tempfile, time
 from tests.mount.kit import *
 
 # A server that says what its first word tells. It answers INIT, and that a name isn't there.
 BAD_SERVER = """
-import os, select, socket, struct, sys, time
+import os, select, socket, sys, time
+from tests import fuse
 HOW = sys.argv[0].rpartition("/")[2]
 if sys.argv[1] != "serve":
     print("legal")
@@ -25,52 +26,50 @@ connection = listening.accept()[0]
 # The mount may go before it has read all that came.
 sys.excepthook = lambda kind, *_: os._exit(0 if kind in (BrokenPipeError, ConnectionResetError) else 1)
 while True:
-    head = connection.recv(40, socket.MSG_WAITALL)
-    if len(head) < 40:
+    head = connection.recv(fuse.HEADER, socket.MSG_WAITALL)
+    if len(head) < fuse.HEADER:
         break
-    length, opcode, unique = struct.unpack_from("<IIQ", head)
-    message = head + connection.recv(length - 40, socket.MSG_WAITALL) if length > 40 else head
-    error, body, size = 0, b"", 0
-    if {1: "no_lookup", 26: "no_init"}.get(opcode) == HOW:
+    length, opcode, unique = fuse.length_of(head), fuse.opcode_of(head), fuse.unique_of(head)
+    message = head + connection.recv(length - len(head), socket.MSG_WAITALL) if length > len(head) else head
+    reply = fuse.reply(unique)
+    if {fuse.LOOKUP: "no_lookup", fuse.INIT: "no_init"}.get(opcode) == HOW:
         continue
-    if opcode == 26 and HOW == "refuses_init":
-        error = -71
-    elif opcode == 26 and HOW == "bad_length":
-        size = 8
-    elif opcode == 26 and HOW == "ends_at_init":
+    if opcode == fuse.INIT and HOW == "refuses_init":
+        reply = fuse.reply(unique, fuse.EPROTO)
+    elif opcode == fuse.INIT and HOW == "bad_length":
+        reply = fuse.with_length(reply, 8)
+    elif opcode == fuse.INIT and HOW == "ends_at_init":
         break
-    elif opcode == 26:
-        body = struct.pack("<4I2HII36x", 7, 31, 0, 1026, 16, 12, 4096, 1)
+    elif opcode == fuse.INIT:
+        reply = fuse.init_reply(unique, flags=fuse.POSIX_LOCKS | fuse.FLOCK_LOCKS)
     elif HOW == "ends_at_lookup":
         break
     elif HOW == "bad_later" and b"later" in message:
-        size = 9
+        reply = fuse.with_length(reply, 9)
     elif HOW == "bad_bodies" and b"body" in message:
-        body = bytes(7)
-    elif opcode == 35:
-        body = struct.pack("<Q32xQ52x4I12xQ8x", 2, 2, 0o100644, 1, 0, 0, 1)
-    elif opcode == 25 and unique >> 62 and HOW == "no_flush":
+        reply = fuse.reply(unique, body=bytes(7))
+    elif opcode == fuse.CREATE:
+        reply = fuse.create_reply(unique, 2, 0o100644, 1, 0, 0, 1)
+    elif opcode == fuse.FLUSH and unique >> 62 and HOW == "no_flush":
         continue
-    elif opcode == 25 and unique >> 62:
+    elif opcode == fuse.FLUSH and unique >> 62:
         time.sleep(0.3)
         if select.select([connection], [], [], 0)[0]:
             sys.exit(5)
-    elif opcode in (18, 25, 32):
+    elif opcode in (fuse.RELEASE, fuse.FLUSH, fuse.SETLK):
         pass
-    elif opcode == 3:
-        body = struct.pack("<16xQ52xIIII12x", 1, 0o40755, 2, 0, 0)
+    elif opcode == fuse.GETATTR:
+        reply = fuse.attr_reply(unique, 1, 0o40755, 2, 0, 0)
     else:
-        error = -2
-    if opcode not in (2, 42):
-        connection.sendall(struct.pack("<IiQ", size or 16 + len(body), error, unique) + body)
+        reply = fuse.reply(unique, fuse.ENOENT)
+    if opcode not in fuse.NO_REPLY:
+        connection.sendall(reply)
 """
 
 
 def bad_server(how):
     path = f"{tempfile.mkdtemp(dir=WORK)}/{how}"
-    with open(path, "w", encoding="ascii") as it:
-        it.write(f"#!{sys.executable}{BAD_SERVER}")
-    os.chmod(path, 0o700)
+    write_server(path, BAD_SERVER)
     return path
 
 

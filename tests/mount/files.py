@@ -223,7 +223,7 @@ def try_touch_and_sizes(mount):
     os.close(fd)
 
 
-def try_times(mount):
+def try_times_of_a_file(mount):
     path, begun = f"{mount.folder}/times", time.time() - 0.1
     os.close(os.open(path, os.O_RDWR | os.O_CREAT))
     found = os.stat(path)

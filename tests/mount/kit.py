@@ -11,7 +11,7 @@ PATIENCE = 60  # seconds that a step may take: the gate may run on a slow machin
 WORK = os.environ.get("TRY_MOUNT_WORK") or tempfile.mkdtemp(prefix="try_mount.")
 READ, WRITE, UNLOCK = fcntl.F_RDLCK, fcntl.F_WRLCK, fcntl.F_UNLCK
 SHARED, ALONE, NOT_HELD, AT_ONCE = fcntl.LOCK_SH, fcntl.LOCK_EX, fcntl.LOCK_UN, fcntl.LOCK_NB
-RECORD = "hhqqi4x"
+STRUCT_FLOCK = "hhqqi4x"
 NOBODY = 65534
 AS_USER = os.geteuid() != 0
 UMOUNT = ["fusermount3", "-u"] if AS_USER else ["umount"]
@@ -90,6 +90,13 @@ def can_abort():
 def listed(mount, *words):
     """What programs/lockd_locks says of the mount's folder."""
     return subprocess.run([f"{TOP}/programs/lockd_locks", *words, mount.folder], capture_output=True, text=True, timeout=PATIENCE)
+
+
+def write_server(path, text):
+    """Writes a program in Python that stands for `lockd` at this path. It finds the modules of tests/."""
+    with open(path, "w", encoding="utf-8") as it:
+        it.write(f"#!{sys.executable} -B\nimport sys\nsys.path.insert(0, {TOP!r})\n{text}")
+    os.chmod(path, 0o700)
 
 
 def children_of(parent):
@@ -184,17 +191,17 @@ def asks_the_server(pid):
 
 
 def record(fd, kind, start=0, length=0, waits=False):
-    fcntl.fcntl(fd, fcntl.F_SETLKW if waits else fcntl.F_SETLK, struct.pack(RECORD, kind, 0, start, length, 0))
+    fcntl.fcntl(fd, fcntl.F_SETLKW if waits else fcntl.F_SETLK, struct.pack(STRUCT_FLOCK, kind, 0, start, length, 0))
 
 
 def ofd(fd, kind, start=0, length=0, waits=False):
     """F_OFD_SETLK and F_OFD_SETLKW, which Python 3.8 doesn't name."""
-    fcntl.fcntl(fd, 38 if waits else 37, struct.pack(RECORD, kind, 0, start, length, 0))
+    fcntl.fcntl(fd, 38 if waits else 37, struct.pack(STRUCT_FLOCK, kind, 0, start, length, 0))
 
 
 def asked(fd, kind, start=0, length=0):
     """What F_GETLK says: nothing, or the kind, start, length and pid of a lock that is in the way."""
-    told = struct.unpack(RECORD, fcntl.fcntl(fd, fcntl.F_GETLK, struct.pack(RECORD, kind, 0, start, length, 0)))
+    told = struct.unpack(STRUCT_FLOCK, fcntl.fcntl(fd, fcntl.F_GETLK, struct.pack(STRUCT_FLOCK, kind, 0, start, length, 0)))
     return None if told[0] == UNLOCK else (told[0], *told[2:])
 
 

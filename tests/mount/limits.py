@@ -118,7 +118,7 @@ def try_no_more_locks_than_runs():
         same(mount.end(), (0, "legal"))
 
 
-def try_rules():
+def try_rules_of_a_mount():
     """With room for one request, the second that waits is refused, and `check` knows of it."""
     mount = Mount("--fair", "--runs", "100", "--parked", "1")
     one, two, three = children(f"{mount.folder}/rules", 3)

@@ -1,5 +1,6 @@
 """Locks of a mount: shell scripts, record locks, and random calls beside a file system in memory."""
-import fcntl, os, random, shutil, signal, tempfile, time
+import os, random, shutil, signal, tempfile, time
+from tests.model import LAST, RECORD, Model
 from tests.mount.kit import *
 
 
@@ -184,38 +185,35 @@ def try_a_waiting_process_is_killed(mount):
 
 # ---- Beside a file system in memory ----
 
+# Locks begin and end within so many bytes, or go on to the last byte of all.
 CELLS = 64
 
 
-class Model:
-    """Which process holds which of the first bytes of each file, the last cell for all that follow: judges F_GETLK."""
+class Files:
+    """The files `x` and `y` of the model. An owner is the place of a process."""
 
     def __init__(self):
-        self.held = {}
+        self.model, self.nodes = Model(range(CELLS + 1)), {"x": 2, "y": 3}
+        for name in self.nodes:
+            self.reply(name, "create", 0, 0o644, name.encode().hex())
 
-    def change(self, name, at, kind, cells):
-        row = self.held.setdefault((name, at), [UNLOCK] * (CELLS + 1))
-        for cell in cells:
-            row[cell] = kind
+    def reply(self, name, op, *words):
+        """What one order is told, of the open file where it needs one."""
+        node = self.nodes[name]
+        return self.model.take(1, node, op, *([] if op == "create" else [node - 1]), *words)[0][1]
 
-    def is_right(self, name, at, kind, cells, told, pids):
+    def record(self, name, at, kind, start, end):
+        return {"ok": "ok", f"err {errno.EAGAIN}": "EAGAIN"}[self.reply(name, "setlk", at, start, end, kind, at, RECORD)]
+
+    def is_right(self, name, at, kind, start, end, told, pids):
         """Whether this is a lock of another that excludes the one asked for, as long as it can be."""
-        if told is None:
-            return not any(it[0] == name and it[1] != at and excludes(row[cell], kind)
-                           for it, row in self.held.items() for cell in cells)
-        row = self.held.get((name, pids.index(told[3])), [])
-        same_kind = [cell for cell in range(len(row)) if row[cell] == told[0]]
-        first, last = told[1], CELLS if told[2] == 0 else told[1] + told[2] - 1
-        return (pids.index(told[3]) != at and excludes(told[0], kind) and all(it in same_kind for it in range(first, last + 1))
-                and first - 1 not in same_kind and last + 1 not in same_kind and any(first <= it <= last for it in cells))
-
-
-def excludes(held, asked_for):
-    return held != UNLOCK and asked_for != UNLOCK and WRITE in (held, asked_for)
+        asked_for, _ = self.model.request(1, self.nodes[name], self.nodes[name] - 1, at, start, end, kind, at, RECORD)
+        locks = [(it.kind, it.start, 0 if it.end == LAST else it.end - it.start + 1, pids[it.owner]) for it in self.model.in_the_way(asked_for)]
+        return told in locks if told else not locks
 
 
 def try_5000_random_calls_of_fcntl(mount):
-    chance, model = random.Random(34), Model()
+    chance, files = random.Random(34), Files()
     memory = tempfile.mkdtemp(dir="/dev/shm")
     team = [Child() for _ in range(4)]
     pids, held = [it.pid for it in team], set()
@@ -226,7 +224,7 @@ def try_5000_random_calls_of_fcntl(mount):
             start = chance.randrange(CELLS)
             length = chance.choice([0, *range(1, 30)])
             length = min(length, CELLS - start)
-            cells = range(start, CELLS + 1 if length == 0 else start + length)
+            end = start + length - 1 if length else LAST
             kind = chance.choice([READ, WRITE, UNLOCK])
             if (at, name) not in held:
                 held.add((at, name))
@@ -241,15 +239,15 @@ def try_5000_random_calls_of_fcntl(mount):
             if words[0] == "asked":
                 told += found[0] is not None
                 others += found[0] != found[1]
-                right = [model.is_right(name, at, words[2], cells, it, pids) for it in found]
+                right = [files.is_right(name, at, words[2], start, end, it, pids) for it in found]
                 assert right == [True, True], f"call {call}, {words}: {found}, {right}"
                 continue
             assert found[0] == found[1], f"call {call}, {words}: {found[0]} on the mount, {found[1]} in memory"
-            if words[0] == "record" and found[0] == "ok":
-                model.change(name, at, kind, cells)
+            if words[0] == "record":
+                same(found[0], files.record(name, at, kind, start, end))
             elif words[0] == "close":
                 held.discard((at, name))
-                model.change(name, at, UNLOCK, range(CELLS + 1))
+                files.reply(name, "flush", at)
     finally:
         shutil.rmtree(memory)
     assert told > (call + 1) // 50, (told, call)

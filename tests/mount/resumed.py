@@ -1,6 +1,6 @@
 """A mount with --resume: its server is killed, and another one goes on with the trace. TRY_MOUNT_KILLS says how often it is killed at random moments
 (10), by TRY_MOUNT_SEED."""
-import ctypes, mmap, os, random, select, shutil, signal, struct, subprocess, sys, tempfile, threading, time
+import ctypes, mmap, os, random, select, shutil, signal, struct, subprocess, tempfile, threading, time
 from collections import Counter
 from report.times import read_times
 from report.trace import read_trace
@@ -277,7 +277,8 @@ def try_messages_that_the_server_had_not_read():
 # A server that has no names. It notes each message, and dies twice: after a half of its reply to a LOOKUP of `sent`, and after a half of a LOOKUP of `read`.
 # One that REFUSES refuses all, from the second INIT on.
 FALTERS = """
-import os, signal, socket, struct, sys
+import os, signal, socket, sys
+from tests import fuse
 if sys.argv[1] != "serve":
     sys.exit(print("legal"))
 open(sys.argv[sys.argv.index("--resume") + 1], "a").close()
@@ -291,23 +292,23 @@ listening.bind("socket")
 listening.listen()
 connection = listening.accept()[0]
 while True:
-    head = connection.recv(40, socket.MSG_WAITALL)
-    if len(head) < 40:
+    head = connection.recv(fuse.HEADER, socket.MSG_WAITALL)
+    if len(head) < fuse.HEADER:
         break
-    length, opcode, unique = struct.unpack_from("<IIQ", head)
-    half = life == 2 and opcode == 1 and not unique >> 63
-    body = connection.recv(2 if half else length - 40, socket.MSG_WAITALL)
+    length, opcode, unique = fuse.length_of(head), fuse.opcode_of(head), fuse.unique_of(head)
+    half = life == 2 and opcode == fuse.LOOKUP and not unique & fuse.UNIQUE_RESEND
+    body = connection.recv(2 if half else length - len(head), socket.MSG_WAITALL)
     print(life, opcode, unique, file=notes, flush=True)
     if half:
         os.kill(os.getpid(), signal.SIGKILL)
-    error, reply = -2 if opcode == 1 else 0, b""
+    unique &= ~fuse.UNIQUE_RESEND
+    reply = fuse.reply(unique, fuse.ENOENT if opcode == fuse.LOOKUP else 0)
     if life > 1 and "REFUSES" in os.environ:
-        error = -71
-    elif opcode == 26:
-        reply = struct.pack("<4I2HII36x", 7, 31, 0, 1026, 16, 12, 4096, 1)
-    elif opcode == 3:
-        reply = struct.pack("<16xQ52xIIII12x", 1, 0o40755, 2, 0, 0)
-    reply = struct.pack("<IiQ", 16 + len(reply), error, unique & ~(1 << 63)) + reply
+        reply = fuse.reply(unique, fuse.EPROTO)
+    elif opcode == fuse.INIT:
+        reply = fuse.init_reply(unique, flags=fuse.POSIX_LOCKS | fuse.FLOCK_LOCKS)
+    elif opcode == fuse.GETATTR:
+        reply = fuse.attr_reply(unique, 1, 0o40755, 2, 0, 0)
     if life == 1 and b"sent" in body:
         connection.sendall(reply[:9])
         os.kill(os.getpid(), signal.SIGKILL)
@@ -318,9 +319,7 @@ while True:
 def faltering():
     """The environment of such a server."""
     folder = tempfile.mkdtemp(dir=WORK)
-    with open(f"{folder}/lockd", "w", encoding="ascii") as it:
-        it.write(f"#!{sys.executable}{FALTERS}")
-    os.chmod(f"{folder}/lockd", 0o700)
+    write_server(f"{folder}/lockd", FALTERS)
     return {"LOCKD": f"{folder}/lockd", "NOTES": f"{folder}/notes"}
 
 

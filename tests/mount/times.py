@@ -39,7 +39,7 @@ def times_fit(trace, times):
     same(times[-1:], b"\n")
 
 
-def try_times():
+def try_times_of_orders():
     """With 1 worker and with 4, they are those of the trace, and programs/lockd_report takes them."""
     for workers in "1", "4":
         folder = tempfile.mkdtemp(dir=WORK)

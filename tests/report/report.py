@@ -97,7 +97,7 @@ def try_a_fair_deadlock():
     same(followed(script)[1].deadlocks, [])
 
 
-def try_names():
+def try_names_that_come_again():
     """A name goes with UNLINK and may come again for another node, which is another file."""
     _, session = followed(CREATED + "".join(f"ask 0 {row}\n" for row in (
         "2 2 0 0 0 setlk 1 7 0 0 1 11 0", "3 1 0 0 0 unlink 61", "4 1 0 0 0 create 0 420 61", "5 3 0 0 0 setlk 2 7 0 0 1 11 1",
@@ -154,7 +154,7 @@ def fault_of(text):
     return ""
 
 
-def try_bad_lines():
+def try_traces_with_a_changed_byte():
     """A trace of which one byte is another is read where `lockd check` reads it, and its first bad line is the same."""
     draw, bad = random.Random(1), 0
     base = traced(text_of("examples/a_file_lives_while_it_is_open.txt"))
@@ -216,7 +216,7 @@ def try_a_trace_that_is_cut():
 
 # ---- Times
 
-def try_times():
+def try_a_clock_with_times():
     """The axis is time, and a wait lasts from its request to its reply."""
     trace, session = followed(text_of("examples/a_lock_is_waited_for.txt"))
     text = times_of(trace, 250_000)

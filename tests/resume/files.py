@@ -18,10 +18,11 @@ import time
 from concurrent.futures import ThreadPoolExecutor
 
 from tests import tries
+from tests.fuse import EAGAIN, SETLK
 from tests.resume import kit
 from tests.tries import CREATE, PATIENCE, Server, judged, run, setlk, wait_until
-from tests.resume.kit import (EAGAIN, FEW, KILLED, LINES, READ, SETLK, UNLOCK, WORKED, WRITE, Client, Gone, asks, completed, goes_on, is_stored,
-                             is_whole, locks, resuming, text_of)
+from tests.resume.kit import (FEW, KILLED, LINES, READ, UNLOCK, WORKED, WRITE, Client, Gone, asks, completed, goes_on, is_stored, is_whole, locks, resuming,
+                             text_of)
 
 NOBODY = 65534
 
@@ -64,7 +65,7 @@ def refuses(traced, told, *options):
     assert server.traced() == traced and not os.path.exists(server.path)
 
 
-def try_bad_lines():
+def try_bad_lines_in_a_resumed_file():
     """The first is told, also behind a line that differs, and whatever follows it."""
     differs = LINES.replace(b"tell 3 ok", b"tell 3 err 11")
     for bad in b"ask 0 4 2 0 0 0 setlkw  1 8 0 0 1 8 0", b"", b"tell 3", b"ASK", b"tell 18446744073709551616 ok", b"x" * 100_000:
@@ -189,7 +190,7 @@ def try_a_file_of_a_server_that_traces():
         assert server.ended() == (b"", "", 0)
 
 
-def try_a_file_that_goes():
+def try_a_resumed_file_that_goes():
     """One that was removed, or of whose name another has taken the place, is told at the end."""
     for take_away in os.remove, lambda file: os.replace(shutil.copy(file, f"{file}.copy"), file):
         server = resuming(traced=LINES)

@@ -1,35 +1,27 @@
 """Tries `lockd serve --resume` of the built program: a server that is killed at each of its reads and writes, and goes on where it was.
 
 The client of `tests/resume/kit.py` sends again what has no reply. Each time its replies and the trace are those of a session that wasn't cut,
-byte for byte. `tests/shims/die.c` kills the server; it wants a C compiler. `tries.py` says how it ends. `DEATHS=1000 tests/resume/kills.py
+byte for byte. `tests/shims/calls.c` kills the server; it wants a C compiler. `tries.py` says how it ends. `DEATHS=1000 tests/resume/kills.py
 try_killed_again_and_again` kills up to a thousand servers at random calls.
 """
 import os
 import random
-import shutil
 import socket
-import subprocess
 import sys
-import tempfile
 from concurrent.futures import ThreadPoolExecutor
 
-from tests import tries
+from tests import calls
+from tests.calls import dying
 from tests.resume import kit
-from tests.tries import CREATE, INIT, TOP, Server, judged, message, peak, replies, take
-from tests.resume.kit import (EAGAIN, FEW, KILLED, LINES, MARK, READ, SETLK, SETLKW, UNLOCK, WORKED, WRITE, Client, Gone, goes_on, is_stored, is_whole,
-                             locks, marked, resuming)
+from tests.fuse import (CREATE_SIZE, EAGAIN, EINVAL, ENOENT, ENOSYS, SETATTR, SETLK, SETLKW, UNIQUE_RESEND, batch_forget, forget, getattr_, interrupt, lookup,
+                        made_of, message, sent_again)
+from tests.tries import CREATE, INIT, Server, judged, peak, replies, take
+from tests.resume.kit import FEW, KILLED, LINES, READ, UNLOCK, WORKED, WRITE, Client, Gone, goes_on, is_stored, is_whole, locks, resuming
 
-WORK = tempfile.TemporaryDirectory(prefix="try-resumed-")
-SHIM = f"{WORK.name}/die.so"
 DEATHS = int(os.environ.get("DEATHS", "60"))
 
 
 # ---- a session that is cut
-
-def dying(number, how):
-    """The environment of a server that dies at its call of this number: before it, after it, or after half of it."""
-    return {**os.environ, "LD_PRELOAD": SHIM, "DIE_AT": str(number), "DIE_HOW": how}
-
 
 def is_cut(rows, *deaths):
     """The worked session, with servers that die so, one after the other, and one that doesn't. Says how many died."""
@@ -53,7 +45,7 @@ def at_each(rows, how):
     """Cuts the session at each call in turn, until there are no more. Says how many there are."""
     with ThreadPoolExecutor() as pool:
         for first in range(1, 10_000, 16):
-            died = [*pool.map(lambda it: is_cut(rows, (it, how)), range(first, first + 16))]
+            died = [*pool.map(lambda it: is_cut(rows, (how, it)), range(first, first + 16))]
             if not all(died):
                 return first - 1 + sum(died)
     raise AssertionError("there is no last one")
@@ -72,17 +64,17 @@ def try_each_death():
     """With a few messages under way, and with one. A row takes at least a read, a write of the file and one of the socket."""
     said = []
     for name, rows in ("in rows", WORKED), ("singly", kit.SINGLY):
-        for how, calls in ("before", 3), ("half", 2), ("after", 3):
+        for how, least in ("before", 3), ("half", 2), ("after", 3):
             count = at_each(rows, how)
-            assert count >= calls * len(WORKED), (name, how, count)
+            assert count >= least * len(WORKED), (name, how, count)
             said.append(f"{name} {count} {how}")
     return ", ".join(said)
 
 
 def try_each_death_while_it_resumes():
     """A server dies within a write, and the next one at each of its first calls."""
-    seconds = [*((it, "before") for it in range(1, 9)), *((it, "half") for it in range(1, 4))]
-    deaths = [((first, "half"), second) for first in range(1, 2 * len(WORKED), 2) for second in seconds]
+    seconds = [*(("before", it) for it in range(1, 9)), *(("half", it) for it in range(1, 4))]
+    deaths = [(("half", first), second) for first in range(1, 2 * len(WORKED), 2) for second in seconds]
     with ThreadPoolExecutor() as pool:
         died = [*pool.map(lambda it: is_cut(WORKED, *it), deaths)]
     assert died.count(2) > len(deaths) // 2, died
@@ -91,10 +83,14 @@ def try_each_death_while_it_resumes():
 
 def try_killed_again_and_again():
     """Servers that die at random calls, up to three in a session."""
+    def death(numbers, rows):
+        number = numbers.randrange(1, len(rows))
+        return numbers.choice(["before", "half", "after"]), number
+
     def cut(seed):
         numbers = random.Random(seed)
         rows = numbers.choice([WORKED, kit.SINGLY])
-        return is_cut(rows, *((numbers.randrange(1, len(rows)), numbers.choice(["before", "half", "after"])) for _ in range(3)))
+        return is_cut(rows, *(death(numbers, rows) for _ in range(3)))
 
     with ThreadPoolExecutor() as pool:
         died = sum(pool.map(cut, range(DEATHS // 3)))
@@ -158,12 +154,12 @@ def is_told(server, sent, told):
 def try_sent_again():
     """What is answered is answered once more, and what waits goes on waiting. What is new is an order, under its unique without the mark."""
     unlock = locks(SETLK, 6, 7, 0, 9, UNLOCK)
-    new = [kit.interrupt(8, 99), kit.look(9, 2), kit.lookup(10, b"b"), kit.forget(11, 99, 1), kit.forget_each(12, (98, 1), (97, 1))]
-    sent = [*(it for it, _ in FEW[:4]), *(marked(it) for it, _ in FEW[:4]), marked(unlock), *(marked(it) for it, _ in FEW[:4]), marked(unlock)]
+    new = [interrupt(8, 99), getattr_(9, 2), lookup(10, b"b"), forget(11, 99, 1), batch_forget(12, (98, 1), (97, 1))]
+    sent = [*(it for it, _ in FEW[:4]), *(sent_again(it) for it, _ in FEW[:4]), sent_again(unlock), *(sent_again(it) for it, _ in FEW[:4]), sent_again(unlock)]
     told = [(2, 0), (3, 0), (2, 0), (3, 0), (6, 0), (4, 0), (5, 0), (2, 0), (3, 0), (4, 0), (5, 0), (6, 0)]
-    told += [(8, EAGAIN), (9, 0), (10, kit.ENOENT)] * 3
+    told += [(8, EAGAIN), (9, 0), (10, ENOENT)] * 3
     server = resuming()
-    found = is_told(server, sent + [marked(it) for it in new * 3], told)
+    found = is_told(server, sent + [sent_again(it) for it in new * 3], told)
     assert found[:160] == found[176:336], "another reply to the CREATE"
     assert kit.asked(server.traced()) == [2, 3, 4, 5, 6, 8, 9, 10, 11, 12, 12], kit.asked(server.traced())
     assert judged(server.traced()) == "legal\n"
@@ -174,21 +170,21 @@ def try_sent_again_to_another_server():
     text = LINES.split(b"tell 5 ok")[0]
     server = resuming(traced=text)
     told = [(2, 0), (3, 0), (4, 0), (5, 0), (6, 0), (7, EAGAIN), (7, EAGAIN)]
-    is_told(server, [marked(it) for it, _ in FEW] + [marked(FEW[-1][0])], told)
+    is_told(server, [sent_again(it) for it, _ in FEW] + [sent_again(FEW[-1][0])], told)
     assert server.traced() == LINES, server.traced()
     pairs = [(99, 1), (2, 0), (98, 1), (97, 1)]
     batch = b"".join(b"ask 0 8 %d 0 0 0 forget %d\n" % it for it in pairs)
     for count in range(5):
         server = resuming(traced=LINES + b"".join(batch.splitlines(True)[:count]) + b"ask 0 8")
-        is_told(server, [marked(kit.forget_each(8, *pairs)), marked(kit.forget_each(8, *pairs)), kit.look(9, 2)], [(9, 0)])
+        is_told(server, [sent_again(batch_forget(8, *pairs)), sent_again(batch_forget(8, *pairs)), getattr_(9, 2)], [(9, 0)])
         assert server.traced().startswith(LINES + batch + b"ask 0 9 "), (count, server.traced())
 
 
 def try_sent_again_that_is_no_order():
     """It is answered each time, and is no line."""
-    unknown, short = message(4, 3, 2, bytes(88)), message(SETLK, 4, 2, b"")
+    unknown, short = message(SETATTR, 3, 2, bytes(88)), message(SETLK, 4, 2)
     server = resuming()
-    is_told(server, [CREATE, unknown, marked(unknown), marked(short)], [(2, 0), (3, kit.ENOSYS), (3, kit.ENOSYS), (4, kit.EINVAL)])
+    is_told(server, [CREATE, unknown, sent_again(unknown), sent_again(short)], [(2, 0), (3, ENOSYS), (3, ENOSYS), (4, EINVAL)])
     assert kit.asked(server.traced()) == [2]
 
 
@@ -196,8 +192,8 @@ def try_a_mark_without_resuming():
     """It is a bit of the unique like others."""
     for workers in 1, 4:
         server = Server("--trace", "{file}", workers=workers)
-        is_told(server, [marked(CREATE)], [(2 | MARK, 0)])
-        assert kit.asked(server.traced()) == [2 | MARK]
+        is_told(server, [sent_again(CREATE)], [(2 | UNIQUE_RESEND, 0)])
+        assert kit.asked(server.traced()) == [2 | UNIQUE_RESEND]
 
 
 def fill(client, uniques):
@@ -213,22 +209,22 @@ def try_the_last_lines():
     the file is open a second time. What waits goes on waiting, though its line has gone."""
     server = resuming()
     with server.connect() as client:
-        client.sendall(INIT + CREATE + locks(SETLK, 3, 7, 0, 0, WRITE) + locks(SETLKW, 4, 8, 0, 0, WRITE) + kit.forget(5, 99, 1))
+        client.sendall(INIT + CREATE + locks(SETLK, 3, 7, 0, 0, WRITE) + locks(SETLKW, 4, 8, 0, 0, WRITE) + forget(5, 99, 1))
         first = take(client, 80 + 160 + 16)[80:240]
         fill(client, range(100, 100 + (65_536 - 6) // 2))
-        client.sendall(marked(CREATE))
+        client.sendall(sent_again(CREATE))
         assert take(client, 160) == first
     assert server.ended() == (b"", "", 0)
     assert server.traced().count(b"\n") == 65_536
     server.start()
     with server.connect() as client:
-        client.sendall(INIT + marked(CREATE))
+        client.sendall(INIT + sent_again(CREATE))
         assert take(client, 80 + 160)[80:] == first
         fill(client, range(50_000, 50_001))
-        client.sendall(marked(CREATE))
-        assert int.from_bytes(first[144:152], "little") == 1 and int.from_bytes(take(client, 160)[144:152], "little") == 2
+        client.sendall(sent_again(CREATE))
+        assert (made_of(first), made_of(take(client, CREATE_SIZE))) == ((2, 1), (2, 2))
         fill(client, range(50_001, 50_002))
-        client.sendall(marked(locks(SETLKW, 4, 8, 0, 0, WRITE)) + locks(SETLK, 6, 7, 0, 0, UNLOCK))
+        client.sendall(sent_again(locks(SETLKW, 4, 8, 0, 0, WRITE)) + locks(SETLK, 6, 7, 0, 0, UNLOCK))
         assert replies(take(client, 32)) == [(6, 0), (4, 0)]
     assert server.ended() == (b"", "", 0)
     uniques = kit.asked(server.traced())
@@ -238,7 +234,7 @@ def try_the_last_lines():
 
 # ---- memory
 
-def try_memory_stays():
+def try_memory_of_a_server_that_resumes():
     """A server that goes on behind many lines has as much memory as one behind few."""
     peaks = []
     for count in 40_000, 200_000:
@@ -252,14 +248,5 @@ def try_memory_stays():
     return f"kilobytes: {peaks[0]} to {peaks[1]}"
 
 
-def main():
-    compiler = shutil.which("cc")
-    if not compiler:
-        print("resume/kills: not tried: there is no C compiler", file=sys.stderr)
-        return tries.NOT_TRIED
-    subprocess.run([compiler, "-shared", "-fPIC", "-O1", "-o", SHIM, f"{TOP}/tests/shims/die.c"], check=True)
-    return tries.main("resume/kills", globals())
-
-
 if __name__ == "__main__":
-    sys.exit(main())
+    sys.exit(calls.main("resume/kills", globals()))

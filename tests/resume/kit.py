@@ -1,92 +1,38 @@
-"""What `tests/resume/kills.py` and `tests/resume/files.py` try with: a worked session, and a client whose server may die, which sends again what has no reply.
-
-Layouts are those of `fuse.h` (protocol 7.31), and of 7.40 the mark of a message that is sent again.
-"""
+"""What `tests/resume/kills.py` and `tests/resume/files.py` try with: a worked session, and a client whose server may die, who sends again what has no reply."""
 import collections
 import contextlib
 import functools
 import os
 import signal
 import socket
-import struct
-import sys
 import time
 
-from tests import tries
-from tests.tries import CREATE, INIT, INIT_REPLY, Server, judged, message
+from tests import fuse, tries
+from tests.fuse import (EAGAIN, EBADF, EDEADLK, EEXIST, EINTR, EINVAL, ENOENT, ENOSYS, GETLK, INTERRUPT, LAST_BYTE, SETATTR, SETLK, SETLKW, batch_forget,
+                        create, flush, forget, interrupt, lookup, message, open_, sent_again, unique_of, unlink)
+from tests.tries import CREATE, INIT, INIT_REPLY, Server, judged
 
-ENOENT, EINTR, EBADF, EAGAIN, EEXIST, EINVAL, EDEADLK, ENOSYS = 2, 4, 9, 11, 17, 22, 35, 38
-FORGET, GETLK, SETLK, SETLKW, INTERRUPT, BATCH_FORGET = 2, 31, 32, 33, 36, 42
 # The messages that may have no reply, though no request of theirs waits.
-SILENT = {FORGET, INTERRUPT, BATCH_FORGET}
-READ, WRITE, UNLOCK = range(3)
-END = 2**63 - 1
-MARK = 1 << 63
+SILENT = {*fuse.NO_REPLY, INTERRUPT}
+READ, WRITE, UNLOCK = fuse.READ_LOCK, fuse.WRITE_LOCK, fuse.NO_LOCK
 KILLED = -signal.SIGKILL
 
 
 # ---- messages
 
-def create(unique, name, flags=0):
-    return message(35, unique, 1, struct.pack("<IIII", flags, 0o644, 0, 0) + name + b"\0")
-
-
-def lookup(unique, name):
-    return message(1, unique, 1, name + b"\0")
-
-
-def unlink(unique, name):
-    return message(10, unique, 1, name + b"\0")
-
-
-def forget(unique, node, count):
-    return message(FORGET, unique, node, struct.pack("<Q", count))
-
-
-def forget_each(unique, *pairs):
-    return message(BATCH_FORGET, unique, 0, struct.pack("<II", len(pairs), 0) + b"".join(struct.pack("<QQ", *it) for it in pairs))
-
-
-def look(unique, node):
-    """A GETATTR."""
-    return message(3, unique, node, bytes(16))
-
-
-def open_(unique, node):
-    return message(14, unique, node, bytes(8))
-
-
 def release(unique, node, fh, owner):
     """A RELEASE that drops the owner's whole-file lock."""
-    return message(18, unique, node, struct.pack("<QIIQ", fh, 0, 2, owner))
-
-
-def flush(unique, node, fh, owner):
-    return message(25, unique, node, struct.pack("<QIIQ", fh, 0, 0, owner))
+    return fuse.release(unique, node, fh, owner, fuse.RELEASE_FLOCK_UNLOCK)
 
 
 def locks(opcode, unique, owner, start, end, kind, node=2, fh=1):
-    """GETLK, SETLK or SETLKW of these bytes."""
-    return message(opcode, unique, node, struct.pack("<QQQQIIII", fh, owner, start, end, kind, owner, 0, 0))
+    """GETLK, SETLK or SETLKW of these bytes. The pid is the owner's number."""
+    return fuse.lock(opcode, unique, owner, start, end, kind, node, fh, owner)
 
 
 def whole(opcode, unique, owner, kind, fh):
     """The same of the whole file, as flock(2) asks."""
-    return message(opcode, unique, 2, struct.pack("<QQQQIIII", fh, owner, 0, END, kind, owner, 1, 0))
-
-
-def interrupt(unique, other):
-    return message(INTERRUPT, unique, 0, struct.pack("<Q", other))
-
-
-def unique_of(bytes_):
-    """The unique of a message or a reply, which has it at the same place."""
-    return struct.unpack_from("<Q", bytes_, 8)[0]
-
-
-def marked(sent):
-    """The message, as it is sent again."""
-    return sent[:8] + struct.pack("<Q", unique_of(sent) | MARK) + sent[16:]
+    return fuse.whole_file(opcode, unique, owner, kind, fh=fh, pid=owner)
 
 
 # ---- a worked session
@@ -107,7 +53,7 @@ WORKED = [
         (lookup(10, b"a"), [(10, 0)]),
         (lookup(11, b"b"), [(11, 0)]),
         (forget(12, 3, 1), []),
-        (look(13, 2), [(13, 0)]),
+        (fuse.getattr_(13), [(13, 0)]),
     ], [
         (interrupt(14, 7), [(7, EINTR)]),
         (interrupt(15, 7), [(15, EAGAIN)]),
@@ -129,10 +75,10 @@ WORKED = [
         (flush(27, 2, 1, 7), [(27, 0), (23, 0), (24, 0), (25, 0)]),
     ], [
         (lookup(28, b"a"), [(28, 0)]),
-        (forget_each(29, (2, 2), (3, 1), (99, 1), (2, 1)), []),
+        (batch_forget(29, (2, 2), (3, 1), (99, 1), (2, 1)), []),
         (unlink(30, b"b"), [(30, 0)]),
-        (look(31, 3), [(31, 0)]),
-        (forget_each(32), []),
+        (fuse.getattr_(31, 3), [(31, 0)]),
+        (batch_forget(32), []),
         (lookup(33, b"b"), [(33, ENOENT)]),
     ], [
         (open_(34, 2), [(34, 0)]),
@@ -152,17 +98,17 @@ WORKED = [
         (locks(SETLKW, 45, 12, 50, 54, WRITE), []),
         (locks(SETLKW, 46, 13, 50, 51, WRITE), [(46, EDEADLK)]),
         # No orders: a request that the server doesn't know, and one without its body.
-        (message(4, 47, 2, bytes(88)), [(47, ENOSYS)]),
-        (message(SETLK, 48, 2, b""), [(48, EINVAL)]),
+        (message(SETATTR, 47, 2, bytes(88)), [(47, ENOSYS)]),
+        (message(SETLK, 48, 2), [(48, EINVAL)]),
         (locks(SETLK, 49, 13, 50, 59, UNLOCK), [(49, 0), (45, 0)]),
     ], [
         (interrupt(50, 26), [(26, EINTR)]),
         (forget(51, 99, 3), []),
-        (create(52, b"a", os.O_EXCL), [(52, EEXIST)]),
+        (create(52, b"a", flags=fuse.O_EXCL), [(52, EEXIST)]),
         (open_(53, 99), [(53, ENOENT)]),
         (lookup(54, b"a"), [(54, 0)]),
     ], [
-        (locks(SETLK, 55, 7, 100, END, WRITE), [(55, 0)]),
+        (locks(SETLK, 55, 7, 100, LAST_BYTE, WRITE), [(55, 0)]),
         (locks(SETLKW, 56, 8, 150, 150, READ), []),
         (locks(SETLKW, 57, 9, 160, 160, READ), []),
         (locks(SETLKW, 58, 10, 170, 170, WRITE), []),
@@ -249,7 +195,7 @@ class Client:
     def kept(self):
         """What is to be sent again, in its order."""
         last = max((at for at, it in enumerate(self.sent) if unique_of(it) in self.found), default=-1)
-        return [it for at, it in enumerate(self.sent) if unique_of(it) not in self.found and (at > last or it[4] not in SILENT)]
+        return [it for at, it in enumerate(self.sent) if unique_of(it) not in self.found and (at > last or fuse.opcode_of(it) not in SILENT)]
 
     def meet(self):
         """Connects, and begins a session."""
@@ -263,7 +209,7 @@ class Client:
         assert self.found.pop(unique_of(INIT)) == [INIT_REPLY]
 
     def send_again(self):
-        self.send(b"".join(map(marked, self.kept())))
+        self.send(b"".join(map(sent_again, self.kept())))
         self.wait()
 
     def ask(self, row):
@@ -289,10 +235,9 @@ class Client:
             raise Gone from error
         if not more:
             raise Gone
-        self.bytes += more
-        while len(self.bytes) >= 16 and len(self.bytes) >= (size := struct.unpack_from("<I", self.bytes)[0]):
-            self.found[unique_of(self.bytes)].append(self.bytes[:size])
-            self.bytes = self.bytes[size:]
+        replies, self.bytes = fuse.cut(self.bytes + more)
+        for it in replies:
+            self.found[unique_of(it)].append(it)
 
     def wait(self):
         while not self.due <= {*self.found}:

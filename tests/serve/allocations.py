@@ -1,36 +1,28 @@
-"""Refuses each allocation of the built `lockd serve` in turn, and of `lockd drive`, and counts those that orders take. Wants a C compiler and the GNU C library; where there is
-none it says so, with status 77.
+"""Refuses each allocation of the built `lockd serve` in turn, and of `lockd drive`, and counts those that orders take. Wants a C compiler and the
+GNU C library; where there is none it says so, with status 77.
 
 A server ends with status 2, `no memory` and no trace, or else goes on: its trace is legal, each order that is no line of it was told that it is
 refused, and all replies are those of the trace. One that says `no memory` answered nobody. `tries.py` says how it ends.
 """
-import os
 import re
-import shutil
 import subprocess
 import sys
-import tempfile
 
-from tests import tries
-from tests.tries import CREATE, INIT, PATIENCE, PROGRAM, TOP, Server, judged, lock, message, replies, setlk, take
+from tests import calls, fuse
+from tests.fuse import EAGAIN, ENOMEM, FORGET, INTERRUPT, NO_LOCK, READ_LOCK, SETLK, SETLKW, WRITE_LOCK
+from tests.tries import CREATE, INIT, PATIENCE, PROGRAM, TOP, Server, judged, lock, replies, setlk, take
 
-WORK = tempfile.TemporaryDirectory(prefix="refuse-")
-SHIM, ASKED = f"{WORK.name}/refuse.so", f"{WORK.name}/asked"
-EAGAIN, ENOMEM = 11, 12
-FORGET, SETLK, SETLKW, INTERRUPT = 2, 32, 33, 36
-READ, WRITE, UNLOCK = range(3)
+COUNTS = f"{calls.WORK.name}/counts"
 DRIVEN = f"{TOP}/examples/two_locks_driven.txt"
 
 
 def refusing(number):
-    """The environment of a program whose allocation of this number is refused, from 1; of none where it is 0."""
-    return {**os.environ, "LD_PRELOAD": SHIM, "REFUSE": str(number), "ASKED": ASKED}
+    return calls.refusing(number, COUNTS)
 
 
 def asked():
     """How many allocations the last program asked for."""
-    with open(ASKED, encoding="ascii") as file:
-        return int(file.read())
+    return calls.allocations(COUNTS)
 
 
 def waiting():
@@ -39,13 +31,13 @@ def waiting():
     orders = {2: CREATE}
     for first in range(3, 199, 8):
         byte = first
-        orders[first] = lock(SETLK, first, 7, byte, WRITE)
+        orders[first] = lock(SETLK, first, 7, byte, WRITE_LOCK)
         for behind in 1, 2, 3:
-            orders[first + behind] = lock(SETLKW, first + behind, 7 + behind, byte, READ if behind == 3 else WRITE)
-        orders[first + 4] = message(INTERRUPT, first + 4, 0, (first + 2).to_bytes(8, "little"))
-        orders[first + 5] = message(FORGET, first + 5, 99, (1).to_bytes(8, "little"))
-        orders[first + 6] = lock(SETLK, first + 6, 7, byte, UNLOCK)
-        orders[first + 7] = lock(SETLK, first + 7, 8, byte, UNLOCK)
+            orders[first + behind] = lock(SETLKW, first + behind, 7 + behind, byte, READ_LOCK if behind == 3 else WRITE_LOCK)
+        orders[first + 4] = fuse.interrupt(first + 4, first + 2)
+        orders[first + 5] = fuse.forget(first + 5, 99)
+        orders[first + 6] = lock(SETLK, first + 6, 7, byte, NO_LOCK)
+        orders[first + 7] = lock(SETLK, first + 7, 8, byte, NO_LOCK)
     return dict(list(orders.items())[:200])
 
 
@@ -59,7 +51,7 @@ def talk(server, orders):
     try:
         with server.connect() as client:
             client.sendall(INIT)
-            if len(take(client, 80)) < 80:
+            if len(take(client, fuse.INIT_SIZE)) < fuse.INIT_SIZE:
                 return None
             sent = b"".join(orders.values())
             found = b""
@@ -80,7 +72,7 @@ def talk(server, orders):
 
 def refusal(unique, order):
     """What an order is told that finds no memory."""
-    opcode = order[4]
+    opcode = fuse.opcode_of(order)
     return [] if opcode == FORGET else [(unique, EAGAIN if opcode == INTERRUPT else ENOMEM)]
 
 
@@ -171,14 +163,5 @@ def try_a_client():
     return f"{count} refused: {without} ended with no memory"
 
 
-def main():
-    compiler = shutil.which("cc")
-    if not compiler:
-        print("refuse_served_allocations: not tried: there is no C compiler", file=sys.stderr)
-        return tries.NOT_TRIED
-    subprocess.run([compiler, "-shared", "-fPIC", "-O1", "-fno-builtin", "-o", SHIM, f"{TOP}/tests/shims/refuse.c"], check=True)
-    return tries.main("refuse_served_allocations", globals())
-
-
 if __name__ == "__main__":
-    sys.exit(main())
+    sys.exit(calls.main("serve/allocations", globals()))

@@ -1,7 +1,7 @@
 """Serves more than two million orders by the built `lockd serve`, past each count at which a server that counts wrongly would give up, and has
 `lockd check` judge a trace that comes with 100,000 reads. Wants a C compiler; where there is none it says so, with status 77.
 
-`bench/peers/client.c` checks each reply, and `lockd check` judges the trace. `ORDERS=10000000 tests/serve/millions.py` takes some minutes, and gigabytes.
+`bench/peers/client.c` checks each reply, and `lockd check` judges the trace. `ORDERS=10000000 tests/run serve/millions` takes some minutes, and gigabytes.
 """
 import contextlib
 import os

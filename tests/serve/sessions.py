@@ -1,162 +1,170 @@
-"""Tries sessions of the built `lockd` with one worker: whole, cut off, in pieces, with reads and writes that fail, and sent again.
+"""Tries what sessions of the built `lockd serve` answer, with one worker and with several: worked scripts and stored sessions, whole, in pieces and sent
+again, with each way of tracing, each number of workers and each end.
 
-The sessions stand in `tests/cases/sessions.txt`. `tests/shims/calls.c` makes the calls of a server short, fails them and notes them; it wants a C compiler.
-A plain server, which this script has, says which calls there are. `tries.py` says how it ends.
+A script's ask lines are sent as messages, and its tell lines are the replies that are wanted. Stored sessions stand in `tests/cases/sessions.txt`. It wants
+a C compiler. `tries.py` says how it ends.
 """
-import errno
 import itertools
+import os
 import re
+import signal
+import socket
 import struct
 import sys
+import time
 
 from tests import calls
+from tests import fuse
 from tests import tries
-from tests.calls import noted
-from tests.tries import Server, each, message, run, take
-from tests.resume.kit import completed, marked
-from tests.serve.sessions_kit import ANSWERS, ENDS, INIT, SESSIONS, STREAM, WORKED, Session, forget_each, is_served, unique_of
+from tests import worked
+from tests.fuse import EAGAIN, EPROTO, GETLK, NO_LOCK, READ_LOCK, SETLK, SETLKW, WRITE_LOCK, attr_reply, destroy, lock_reply, reply, unique_of
+from tests.resume.kit import completed
+from tests.serve import kit
+from tests.serve.kit import (
+    BAD, FILE, PLAIN, ROOM, SESSIONS, WAYS, WORKED, Client, Session, does, is_served, orders_of, shortened, steps, trace_of, tracing, without_workers,
+    workers_of)
+from tests.tries import INIT, INIT_REPLY, Server, each, lock, take
 
-# The most bytes of replies that go out together, and of one reply.
-ROOM, LONGEST = 672, 160
-# These can be cut into messages, each with what comes of it.
-PLAIN = [it for it in SESSIONS if it.is_plain()]
-assert len(PLAIN) == 11, len(PLAIN)
-
-
-# ---- a plain server
-
-def steps(session):
-    """Each message of a plain session, with the lines and the replies that come of it."""
-    lines, replies = session.lines.splitlines(True), [*session.replies]
-    for sent in session.messages:
-        own = []
-        while lines and lines[0].startswith(b"ask 0 %d " % unique_of(sent)):
-            own.append(lines.pop(0))
-            while lines and lines[0].startswith(b"tell "):
-                own.append(lines.pop(0))
-        told = sum(it.startswith(b"tell ") for it in own)
-        count = told if own else bool(replies) and unique_of(replies[0]) == unique_of(sent)
-        yield sent, b"".join(own), replies[:count]
-        del replies[:count]
-    assert not lines and not replies, (session.title, lines, replies)
+# The orders that only read. With several workers they are answered without the lock, and are in no trace.
+LOOKS = "getlk", "getattr"
 
 
-class Plain:
-    """What a server does with a plain session, or with so many bytes of it: its calls, and what they moved.
+# ---- lines and messages
 
-    It reads if no whole message is at hand. Before that it writes all lines to the file, and then sends the replies; so it does before the reply
-    to an INIT too, and if there may be no room for another. `recv`, `send` and `write` say how many bytes a call moves at most, and `fails` has
-    the kind, the number and the error of a call that fails. After that it sends nothing more, and if that was no `send`, it ends.
-    """
-
-    def __init__(self, session, length=None, recv=8192, send=ROOM, write=1 << 16, fails=("none", 0, 0)):
-        self.most, self.fails = {"recv": recv, "send": send, "write": write}, fails
-        self.calls, self.moved, self.over = [], dict.fromkeys(self.most, b""), set()
-        self.lines = self.replies = b""
-        rest, at_hand = session.stream[:length], 0
-        for sent, lines, replies in [*steps(session), (bytes(1 << 20), b"", [])]:
-            while at_hand < len(sent):
-                self.hand_on()
-                came = self.call("recv", rest)
-                if not came:
-                    return
-                rest, at_hand = rest[len(came):], at_hand + len(came)
-            at_hand -= len(sent)
-            self.lines += lines
-            for reply in replies:
-                if sent[4] == INIT or len(self.replies) + LONGEST > ROOM:
-                    self.hand_on()
-                self.replies += reply
-
-    def hand_on(self):
-        for kind, bytes_ in ("write", self.lines), ("send", self.replies):
-            while bytes_ and kind not in self.over:
-                bytes_ = bytes_[len(self.call(kind, bytes_)):]
-        self.lines = self.replies = b""
-
-    def call(self, kind, bytes_):
-        if kind in self.over:
-            return b""
-        name, number, error = self.fails
-        if name == kind and number == 1 + sum(it.startswith(kind) for it in self.calls):
-            self.over = {"send"} if kind == "send" else {*self.most}
-            self.calls.append(f"{kind} {-error}")
-            return b""
-        came = bytes_[:self.most[kind]]
-        self.calls.append(f"{kind} {len(came)}")
-        self.moved[kind] += came
-        return came
+# The opcode of each order, and how the words of its line are its body.
+ORDERS = {
+    "lookup": (fuse.LOOKUP, fuse.name_body), "forget": (fuse.FORGET, fuse.forget_body), "getattr": (fuse.GETATTR, fuse.getattr_body),
+    "unlink": (fuse.UNLINK, fuse.name_body), "open": (fuse.OPEN, fuse.open_body), "flush": (fuse.FLUSH, fuse.flush_body),
+    "release": (fuse.RELEASE, lambda fh, drop, owner: fuse.release_body(fh, owner, fuse.RELEASE_FLOCK_UNLOCK * drop)),
+    "getlk": (GETLK, fuse.lock_body), "setlk": (SETLK, fuse.lock_body), "setlkw": (SETLKW, fuse.lock_body),
+    "create": (fuse.CREATE, lambda excl, mode, name: fuse.create_body(name, fuse.S_IFREG | mode, fuse.O_EXCL * excl)),
+    "interrupt": (fuse.INTERRUPT, fuse.interrupt_body),
+}
+NAMED = "lookup", "unlink", "create"
+REPLIES = {"err": reply, "entry": fuse.entry_reply, "attr": attr_reply, "open": fuse.open_reply, "made": fuse.create_reply, "lock": lock_reply}
 
 
-def shortened(*options, resumes=False, fails=None, **most):
-    """A server whose calls are short and fail so, and the file with its calls. Its trace goes to a file too. A `recv` or a `send` fails once, a `write` from
-    then on."""
-    notes, kinds = calls.new_notes(), {it: [most.get(it, 0)] for it in ("recv", "send", "write")}
-    if fails:
-        kind, number, error = fails
-        kinds[kind] += number, number if kind != "write" else calls.ANY, error
-    option, workers = ("--resume", None) if resumes else ("--trace", 1)
-    return Server(option, "{file}", *options, workers=workers, env=calls.environment(notes, **kinds)), notes
+def message_of(line):
+    """The message of an ask line without its worker."""
+    _, unique, node, *who = line.split()[:6]
+    order, *words = line.split()[6:]
+    names = [bytes.fromhex(words.pop().strip("-"))] if order in NAMED else []
+    opcode, body = ORDERS[order]
+    return fuse.message(opcode, int(unique), int(node), body(*map(int, words), *names), *map(int, who))
 
 
-def are_calls(found, wanted, *what):
-    """So, or else the first that differs is told."""
-    at = next((at for at, (one, other) in enumerate(itertools.zip_longest(found, wanted)) if one != other), None)
-    assert at is None, (*what, "calls", at, found[max(0, at - 2):at + 2], wanted[max(0, at - 2):at + 2])
+def reply_of(line):
+    """The reply of a tell line."""
+    _, unique, result, *words = line.split()
+    return reply(int(unique)) if [result, *words] == ["ok"] else REPLIES[result](int(unique), *map(int, words))
 
 
-def does(session, told="", resumes=False, **how):
-    """A server makes the calls of a plain one, which move the same bytes."""
-    plain = Plain(session, **how)
-    server, notes = shortened(*session.options, resumes=resumes, **how)
-    came = server.talk(session.stream)
-    ended = server.ended()
-    assert ended == (b"", told, 2 if told else 0), (session.title, how, ended)
-    are_calls(noted(notes), plain.calls, session.title, how)
-    assert (came, server.traced()) == (plain.moved["send"], plain.moved["write"]), (session.title, how, came.hex(), server.traced())
-    return plain
+def bytes_of(order):
+    """The message of an order, and the replies that it gives."""
+    ask, *told = order.splitlines()
+    return message_of(ask), b"".join(map(reply_of, told))
 
 
-# ---- whole sessions
+# ---- scripts
+
+def is_idle(server, client):
+    """The server has read all, and each of its threads slept at two looks. So no order is under way: who hands one on is awake until another is."""
+    return not client.unread() and all(tries.states_of(server.serving) == {"S"} for _ in range(2))
+
+
+def wait_until_idle(server, client):
+    last = time.monotonic() + tries.PATIENCE
+    while not is_idle(server, client):
+        assert time.monotonic() < last, "the server is never idle"
+        time.sleep(0.0002)
+
+
+def gets_the_replies(server, trace, workers, together):
+    """A client of the server sends the orders of a trace, so many together, and gets the replies of the trace and no other. Of several workers each order
+    was taken before the next is sent, also one that has no reply."""
+    asked = [*map(bytes_of, orders_of(trace))]
+    with Client(server) as client:
+        client.gets(INIT, INIT_REPLY)
+        for at in range(0, len(asked), together):
+            sent, wanted = map(b"".join, zip(*asked[at:at + together]))
+            client.send(sent)
+            if not wanted and workers != 1:
+                wait_until_idle(server, client)
+            found = take(client.socket, len(wanted))
+            assert found == wanted, (sent, found, wanted)
+        client.closes()
+        assert client.rest() == []
+
+
+def script_is_served(title, trace, way, workers, together):
+    """The script has its replies, and its trace is printed, goes to a file or nowhere."""
+    try:
+        server = tracing(way, workers=workers)
+        gets_the_replies(server, trace, workers, together)
+        found = trace_of(server, way)
+        wanted = [it for it in orders_of(trace) if workers == 1 or it.split()[6] not in LOOKS]
+        assert found is None or without_workers(found) == "".join(wanted) and workers_of(found) <= {*range(workers)}, found
+    except AssertionError as error:
+        raise AssertionError(f"{title}, {way}, {workers} workers: {error}") from error
+
+
+def are_served(scripts, *hows):
+    """Each script, each time with a way of tracing, so many workers, and so many messages together."""
+    each(script_is_served, [(*script, *how) for how in hows for script in scripts])
+    return f"{len(scripts)} scripts, {len(hows)} times"
+
+
+def scripts():
+    """Each worked script, and none at all."""
+    return [("nothing", ""), *((title, trace) for title, trace, _ in worked.stored())]
+
+
+def try_scripts_with_one_worker():
+    """One message after another, and then those of a script together."""
+    return are_served(scripts(), ("printed", 1, 1), ("pieces", 1, 1), ("none", 1, 1), ("printed", 1, 100))
+
+
+def try_scripts_with_workers():
+    """Of 4 and of 16."""
+    return are_served(scripts(), ("printed", 16, 1), ("printed", 4, 1), ("pieces", 4, 1), ("none", 4, 1))
+
+
+def try_scripts_that_reach_a_limit():
+    return are_served(worked.limits(), ("printed", 1, 64), ("file", 1, 64), ("none", 1, 64), ("printed", 4, 1))
+
+
+def try_scripts_that_go_on():
+    """With `--resume` a message is sent again if bit 63 of its unique is set: the replies and the line have the unique without it."""
+    for title, trace in scripts():
+        server = Server("--resume", "{file}", workers=None)
+        told = server.talk(INIT + b"".join(bytes_of(it)[0] for it in orders_of(trace)))
+        wanted = re.sub(r"\b18446744073709551615\b", str(2**63 - 1), trace)
+        assert told == INIT_REPLY + b"".join(bytes_of(it)[1] for it in orders_of(wanted)), (title, told)
+        assert server.ended() == (b"", "", 0), title
+        assert without_workers(server.traced().decode()) == without_workers(wanted), (title, server.traced())
+
+
+# ---- stored sessions, whole and in pieces
 
 def try_stored_sessions():
     """They get their replies, and leave their traces."""
     assert len(each(is_served, zip(SESSIONS))) == 34, len(SESSIONS)
 
 
-def batch(count):
-    """A session with a BATCH_FORGET of one lookup of each of so many nodes."""
-    lines = "".join(f"= ask 0 5 {it + 1} 0 0 0 forget 1\n" for it in range(count))
-    sent = forget_each(5, *range(1, count + 1))
-    return Session(f"{count} pairs", f"> {tries.INIT.hex()}\n> {sent.hex()}\n< {tries.INIT_REPLY.hex()}\n{lines}")
-
-
-def try_the_most_pairs_that_a_message_has():
-    """With one more it would be longer than any message."""
-    is_served(batch(509))
-    server = Server()
-    assert server.talk(batch(510).stream) == tries.INIT_REPLY
-    assert server.ended() == (b"", "bad length 8208\n", 2)
-
-
 def try_no_reply_stays_behind_while_its_client_waits():
     for session in PLAIN:
         server, notes = shortened(*session.options)
-        with server.connect() as client:
+        with Client(server) as client:
             for sent, _, replies in steps(session):
-                client.sendall(sent)
-                came = take(client, len(b"".join(replies)))
-                assert came == b"".join(replies), (session.title, came.hex())
+                client.gets(sent, *replies)
         assert server.ended() == (b"", "", 0)
         if session == WORKED:
             counts = [[("recv", sent), ("write", lines), ("send", b"".join(replies))] for sent, lines, replies in steps(session)]
             wanted = [f"{kind} {len(it)}" for row in counts for kind, it in row if it] + ["recv 0"]
-            are_calls(noted(notes), wanted)
+            kit.are_calls(calls.noted(notes), wanted)
 
 
-# ---- pieces
-
-def try_pieces():
+def try_sessions_in_pieces():
     """Reads, replies and lines go in pieces of a byte, of a few, and of many. Before each read all lines are in the file, and all replies have left."""
     def goes(session, size, resumes):
         does(session, resumes=resumes, **dict(zip(("recv", "send", "write"), size)))
@@ -165,96 +173,20 @@ def try_pieces():
     return f"{len(each(goes, itertools.product(PLAIN, sizes, (False, True))))} sessions"
 
 
-def with_unique(bytes_, unique):
-    return bytes_[:8] + struct.pack("<Q", unique) + bytes_[16:]
-
-
 def try_replies_to_what_one_read_gave_go_out_together():
     """A write has at most 672 bytes, and goes out when a reply of 160 would have no more room."""
     for locks, writes in (0, 1), (18, 1), (19, 2), (64, 3):
         text = "".join(f"> {it.hex()}\n" for it in WORKED.messages[:2]) + "".join(f"< {it.hex()}\n" for it in WORKED.replies[:2])
         text += "".join(f"= {it}\n" for it in WORKED.lines.decode().splitlines()[:2])
         for unique in range(3, 3 + locks):
-            text += f"> {with_unique(WORKED.messages[2], unique).hex()}\n< {with_unique(WORKED.replies[2], unique).hex()}\n"
+            text += f"> {fuse.with_unique(WORKED.messages[2], unique).hex()}\n< {reply(unique).hex()}\n"
             text += f"= ask 0 {unique} 2 0 0 0 setlk 1 7 0 9 1 11 0\n= tell {unique} ok\n"
         plain = does(Session(f"{locks} locks", text))
         sizes = [int(it.split()[1]) for it in plain.calls if it.startswith("send")]
         assert len(sizes) == writes and max(sizes) <= ROOM, sizes
 
 
-# ---- ends
-
-def is_cut(length):
-    """So many bytes of the worked session are a fault, if they end within a message."""
-    ran = run("bytes", text=STREAM[:length].hex().encode() + b"\n")
-    wanted = b"" if length in ENDS else b"cut\n"
-    assert (ran.stderr, ran.returncode) == (wanted, 2 if wanted else 0), (length, ran)
-    assert bytes.fromhex(ran.stdout.decode()) == Plain(WORKED, length).moved["send"], (length, ran)
-
-
-def try_cut_after_each_byte():
-    assert len(each(is_cut, zip(range(len(STREAM) + 1)))) == 291
-
-
-def try_each_read_fails():
-    """It ends the session, and isn't tried again if it was interrupted. By then the replies to all whole messages have left."""
-    sent = []
-    for number in range(1, 12):
-        for error in errno.EIO, errno.EINTR:
-            plain = does(WORKED, "read failed\n", recv=29, fails=("recv", number, error))
-        sent.append(len(plain.moved["send"]))
-    assert sent == [0, 0, 80, 80, 240, 240, 240, 256, 256, 256, 272], sent
-
-
-def try_each_write_fails_or_takes_nothing():
-    """Nothing more is sent, also if it was interrupted, and all messages are taken."""
-    def fails(number, error, size):
-        plain = does(WORKED, "write failed\n", recv=29, send=size, fails=("send", number, error))
-        assert plain.moved["write"] == WORKED.lines and len(plain.moved["send"]) < 272
-
-    rows = [(number, error, 7) for number in range(1, 42) for error in (errno.EINTR, errno.EPIPE, 0)]
-    each(fails, rows + [(number, error, ROOM) for number in range(1, 5) for error in (errno.EINTR, 0)])
-
-
-def try_nothing_is_read_behind_the_end():
-    """Behind a DESTROY, and behind a length that no message has."""
-    first, agreed, done = WORKED.messages[0], WORKED.replies[0], with_unique(WORKED.replies[2], 5)
-    lengths = [(struct.pack("<I", it), f"bad length {it}\n", b"") for it in (39, 8193)]
-    for end, told, last in [(message(38, 5, 0, b""), "", done), *lengths]:
-        server, notes = shortened(recv=len(first + end))
-        assert server.talk(first + end + STREAM) == agreed + last
-        assert server.ended() == (b"", told, 2 if told else 0)
-        are_calls(noted(notes), [f"recv {len(first + end)}", f"send {len(agreed + last)}"])
-
-
-def try_a_cut_stream_and_a_failed_write():
-    """The first is the fault, and with `--verbose` the second is told beside it."""
-    for fails, size in (None, 256), (("send", 2, errno.EPIPE), 200):
-        server, _ = shortened("--verbose", send=200, fails=fails)
-        assert server.talk(STREAM[:-1]) == ANSWERS[:size]
-        _, told, status = server.ended()
-        assert "\ncut\n" in told and "write failed" not in told and status == 2, told
-        assert ("\nreplies can't be written to the client: " in told) == bool(fails), told
-
-
-# ---- behind a trace
-
-def try_no_reply_leaves_before_its_line():
-    """A write of the file of `--resume` fails, each in turn. The session ends by then, so nothing is read or sent any more."""
-    def fails(number, size):
-        how = {"recv": size, "write": 7, "fails": ("write", number, errno.EIO)}
-        plain, (server, notes) = Plain(WORKED, **how), shortened("--trace-full", "end", resumes=True, **how)
-        came = server.talk(STREAM)
-        _, told, status = server.ended()
-        assert re.fullmatch("cannot write .*\ntrace failed\n", told) and status == 2, (number, told)
-        made, behind = noted(notes)[:len(plain.calls)], noted(notes)[len(plain.calls):]
-        are_calls(made + [it for it in behind if not it.startswith("write")], plain.calls, number)
-        assert (came, server.traced()) == (plain.moved["send"], plain.moved["write"]), (number, came.hex(), server.traced())
-
-    for size in 29, 8192:
-        count = sum(it.startswith("write") for it in Plain(WORKED, recv=size, write=7).calls)
-        each(fails, [(number, size) for number in range(1, count + 1)])
-
+# ---- stored sessions, sent again
 
 def again(session, text, most):
     """What a session that goes on behind this text makes of it, if its first messages come again, and the replies that come then."""
@@ -278,7 +210,7 @@ def is_as_one(session, cut):
         server = Server("--resume", "{file}", *session.options, workers=None, traced=text)
         text, wanted = again(session, completed(text, session.lines), most)
         first, *others = session.messages[:most]
-        came = server.talk(first + b"".join(map(marked, others)))
+        came = server.talk(first + b"".join(map(fuse.sent_again, others)))
         assert server.ended() == (b"", "", 0)
         assert (came, server.traced()) == (wanted, text), (session.title, cut, came.hex(), wanted.hex(), server.traced())
     assert text == session.lines, (session.title, cut, text)
@@ -288,6 +220,174 @@ def try_sessions_that_are_cut_are_as_one():
     """Cut behind each line of their traces, and once more. A batch is cut between its FORGETs, and requests wait."""
     every = [(it, cut) for it in PLAIN for cut in range(it.lines.count(b"\n") + 1)]
     return f"{len(each(is_as_one, every))} cuts"
+
+
+# ---- each number of workers
+
+CREATED = "ask 2 1 0 0 0 create 0 420 61\ntell 2 made 2 33188 1 0 0 1\n"
+
+
+def asks_for_each_kind_of_lock(client):
+    """One message after another. Each reply is compared."""
+    client.begin()
+    client.gets(lock(SETLK, 3, 7, 5, WRITE_LOCK), reply(3))
+    client.gets(fuse.getattr_(4), attr_reply(4, 2, *FILE))
+    client.gets(fuse.lock(SETLK, 5, 8, 4, 6, READ_LOCK, pid=12), reply(5, EAGAIN))
+    client.gets(fuse.lock(GETLK, 6, 8, 0, 9, READ_LOCK, pid=12), lock_reply(6, 5, 5, WRITE_LOCK, 11))
+    client.send(fuse.lock(SETLKW, 7, 8, 5, 5, WRITE_LOCK, pid=12))
+    client.sees_parked([7])
+    client.gets(lock(SETLK, 8, 7, 5, NO_LOCK), reply(8), reply(7))
+    client.gets(fuse.lock(GETLK, 9, 7, 0, 9, WRITE_LOCK, pid=12), lock_reply(9, 5, 5, WRITE_LOCK, 12))
+    client.gets(destroy(10), reply(10))
+    assert client.rest() == []
+
+
+def try_each_number_of_workers():
+    """A session with each kind of lock request. Each order of the trace is compared. With several workers the trace has no orders that only read."""
+    reads = ["ask 4 2 0 0 0 getattr\ntell 4 attr 2 33188 1 0 0\n", "ask 6 2 0 0 0 getlk 1 8 0 9 0 12 0\ntell 6 lock 5 5 1 11\n",
+             "ask 9 2 0 0 0 getlk 1 7 0 9 1 12 0\ntell 9 lock 5 5 1 12\n"]
+    orders = [CREATED, "ask 3 2 0 0 0 setlk 1 7 5 5 1 11 0\ntell 3 ok\n", "ask 5 2 0 0 0 setlk 1 8 4 6 0 12 0\ntell 5 err 11\n",
+              "ask 7 2 0 0 0 setlkw 1 8 5 5 1 12 0\n", "ask 7 1 0 0 0 lookup 61\ntell 7 err 22\n",
+              "ask 8 2 0 0 0 setlk 1 7 5 5 2 11 0\ntell 8 ok\ntell 7 ok\n"]
+    for workers in range(1, 17):
+        for way in "printed", "file":
+            server = tracing(way, workers=workers)
+            with Client(server) as client:
+                asks_for_each_kind_of_lock(client)
+            trace = trace_of(server, way)
+            # If a LOOKUP of `sees_parked` came before the SETLKW, it found the file.
+            found = [it for it in orders_of(trace) if it != "ask 7 1 0 0 0 lookup 61\ntell 7 entry 2 33188 1 0 0\n"]
+            assert sorted(found) == sorted(orders + reads * (workers == 1)), (workers, found)
+            assert workers_of(trace) <= {*range(workers)}, (workers, trace)
+
+
+def try_the_number_of_threads():
+    """One worker serves in one thread. Several have a thread each, and another one reads. The default is four workers."""
+    for workers in None, *range(1, 17):
+        server = tracing("none", workers=workers)
+        with Client(server) as client:
+            client.begin()
+            found, wanted = len(os.listdir(f"/proc/{server.serving.pid}/task")), 1 if workers == 1 else (workers or 4) + 1
+            assert found == wanted, (workers, found)
+            client.gets(destroy(3), reply(3))
+        trace_of(server, "none")
+
+
+# ---- each end
+
+SET = "ask 5 2 0 0 0 setlk 1 9 5 5 1 11 0\ntell 5 ok\n"
+FIFTH = lock(SETLK, 5, 9, 5, WRITE_LOCK)
+
+
+def closes_its_side(behind=b""):
+    """The client sends this and closes its side, and nothing more comes."""
+    def end(_server, client):
+        client.send(behind)
+        client.closes()
+        assert client.rest() == []
+
+    return end
+
+
+def goes_away(_server, client):
+    client.socket.close()
+
+
+def destroys(_server, client):
+    """What follows a DESTROY counts for nothing, also if it came with it."""
+    client.gets(destroy(6) + FIFTH + BAD, reply(6))
+    assert client.rest() == []
+
+
+def is_reset(_server, client):
+    """The client closes while a reply is unread. Then the server's next read fails."""
+    client.send(FIFTH)
+    tries.wait_until(lambda: len(client.socket.recv(fuse.BARE_SIZE, socket.MSG_PEEK)) == fuse.BARE_SIZE)
+    client.socket.close()
+
+
+def reads_no_more(behind=b""):
+    """The client ends reading, so that the reply to its last lock can't be written. Then it sends that lock and this, and closes its side."""
+    def end(_server, client):
+        client.socket.shutdown(socket.SHUT_RD)
+        client.send(FIFTH, behind)
+        client.closes()
+
+    return end
+
+
+def closes_before_it_is_answered(server, client):
+    """The server is stopped while the client sends a lock and closes. So no reply is unread, and that to the lock can't be written."""
+    server.serving.send_signal(signal.SIGSTOP)
+    tries.wait_until(lambda: tries.states_of(server.serving) == {"T"})
+    client.send(FIFTH)
+    client.socket.close()
+    server.serving.send_signal(signal.SIGCONT)
+
+
+# Each end, what is told, and what the trace has more than the session so far. At the first two a server that reads few bytes at once leaves some.
+ENDS = [
+    (destroys, "", []),
+    (closes_its_side(BAD + FIFTH), "bad length 39\n", []),
+    (closes_its_side(), "", []),
+    (goes_away, "", []),
+    *((closes_its_side(FIFTH[:size]), "cut\n", []) for size in (1, 3, 4, 41, 87)),
+    *((closes_its_side(struct.pack("<I", it)), f"bad length {it}\n", []) for it in (0, 39, 8193, 2**32 - 1)),
+    (is_reset, "read failed\n", [SET]),
+    (reads_no_more(), "write failed\n", [SET]),
+    (closes_before_it_is_answered, "write failed\n", [SET]),
+    (reads_no_more(destroy(6)), "write failed\n", [SET]),
+    (reads_no_more(BAD), "bad length 39\n", [SET]),
+    (reads_no_more(FIFTH[:41]), "cut\n", [SET]),
+]
+EVERY_WAY = [*itertools.product((1, 4), WAYS)]
+
+
+def ends(end, told, more, workers, way):
+    server = tracing(way, workers=workers)
+    with Client(server) as client:
+        client.begin()
+        client.gets(lock(SETLK, 3, 7, 0, WRITE_LOCK), reply(3))
+        client.send(lock(SETLKW, 4, 8, 0, WRITE_LOCK))
+        assert not os.path.exists(server.path)
+        client.gets(fuse.init(9), reply(9, EPROTO))
+        end(server, client)
+    trace = trace_of(server, way, told)
+    wanted = [CREATED, "ask 3 2 0 0 0 setlk 1 7 0 0 1 11 0\ntell 3 ok\n", "ask 4 2 0 0 0 setlkw 1 8 0 0 1 11 0\n", *more]
+    assert trace is None or sorted(orders_of(trace)) == sorted(wanted), (end, told, workers, way, trace)
+
+
+def try_ends():
+    """A session with a lock and a request that waits for it, with each end. The request gets no reply."""
+    every = [(*end, *how) for end in ENDS for how in EVERY_WAY if "pieces" not in how or end not in ENDS[:2]]
+    return f"{len(each(ends, every))} sessions"
+
+
+def try_a_client_that_goes_in_the_middle():
+    """It sends 200 locks and closes at once. Two outcomes are right, by timing. If a reply came before the client closed, it is unread, and the server's
+    read fails after the last lock. If none came, a write fails, and the server reads on to the stream's end. It takes all locks in both."""
+    for workers, way in EVERY_WAY * 4:
+        server = tracing(way, workers=workers)
+        with Client(server) as client:
+            client.begin()
+            client.send(*(lock(SETLK, it, 7, it, WRITE_LOCK) for it in range(3, 203)))
+        trace_of(server, way, ("read failed\n", "write failed\n"), lines=2 * 201)
+
+
+def try_a_client_that_does_nothing():
+    """It sends nothing, or is cut off in its first message. The trace has no line, and its file stays. It also stays after a cut in a later message."""
+    for behind, told in (b"", ""), (b"\x38", "cut\n"), (INIT[:55], "cut\n"), (BAD, "bad length 39\n"):
+        for workers, way in EVERY_WAY:
+            server = tracing(way, workers=workers)
+            with Client(server) as client:
+                closes_its_side(behind)(server, client)
+            trace_of(server, way, told, lines=0)
+    for full, workers in ("go-on", 1), ("refuse", 2):
+        server = tracing("file", "--trace-full", full, workers=workers)
+        with Client(server) as client:
+            client.begin()
+            closes_its_side(FIFTH[:50])(server, client)
+        assert orders_of(trace_of(server, "file", "cut\n")) == [CREATED]
 
 
 if __name__ == "__main__":

@@ -3,6 +3,7 @@
 A server meets a client of the script's own, a client meets a server of it, and both meet each other. `tries.py` says how it ends.
 """
 import contextlib
+import itertools
 import os
 import socket
 import struct
@@ -11,60 +12,41 @@ import tempfile
 import threading
 import time
 
+from tests import fuse
 from tests import tries
-from tests.tries import CREATE, INIT, INIT_REPLY, Server, cases, fails_to_read, fills_up, judged, line_of, lock, marked, message, replies, run, setlk, take, text_of
+from tests.fuse import ENOLCK, READ_LOCK, SETLK, WRITE_LOCK
+from tests.serve.kit import BAD, Client, trace_of, tracing
+from tests.tries import CREATE, INIT, INIT_REPLY, Server, cases, fails_to_read, fills_up, judged, line_of, lock, marked, replies, run, setlk, take, text_of
 
 SHORT = "10000000f5ffffff0400000000000000\n"
-ENOLCK = 37
 # The worked session with two locks: what its client sends behind an INIT, and what it gets.
 TWO_LOCKS = dict(cases(text_of("tests/cases/bytes.txt")))["a read lock under another's write lock"]
 SENT, GOT = (marked(TWO_LOCKS, mark).replace("INIT\n", "") for mark in ("> ", "< "))
 
 
-def is_traced(trace, lines, *options):
-    """The trace is legal, and has so many lines."""
-    assert judged(trace, *options) == "legal\n", (judged(trace, *options), trace)
-    assert trace.count(b"\n") == lines, (lines, trace)
-
-
 # ---- servers
 
-def talk(server, sent, slowly=False):
-    """Sends these bytes, at once or two at a time with pauses that are longer than a look, closes its side, and gives all that comes."""
-    most = 2 if slowly else len(sent)
-    with server.connect() as client:
-        for number, at in enumerate(range(0, len(sent), most)):
-            client.sendall(sent[at:at + most])
+def slowly(server, sent):
+    """Sends these bytes two at a time with pauses, of which many are longer than a look, closes its side, and gives all that comes."""
+    with Client(server) as client:
+        for number, at in enumerate(range(0, len(sent), 2)):
+            client.send(sent[at:at + 2])
             if number % 4:
                 time.sleep(0.001)
-        client.shutdown(socket.SHUT_WR)
-        return take(client, sys.maxsize)
+        client.closes()
+        return take(client.socket, sys.maxsize)
 
 
-ENDS = (b"", ""), (struct.pack("<I", 39), "bad length 39\n"), (struct.pack("<I", 56), "cut\n")
-
-
-def try_sessions():
+def try_a_client_that_sends_slowly():
     """The worked session, with three ends."""
-    for behind, told in ENDS:
-        for slowly in False, True:
-            server = Server()
-            came = talk(server, INIT + bytes.fromhex(SENT) + behind, slowly)
-            assert came == INIT_REPLY + bytes.fromhex(GOT), came
-            printed, *ended = server.ended()
-            assert ended == [told, 2 if told else 0], (behind, ended)
-            is_traced(printed, 6)
-            assert not os.path.exists(server.path)
-
-
-def try_a_session_of_four_workers():
-    for behind, told in ENDS:
-        server = Server(workers=4)
-        came = talk(server, INIT + bytes.fromhex(SENT) + behind)
-        assert came[:80] == INIT_REPLY and len(replies(came)) == 4, came
-        printed, *ended = server.ended()
-        assert ended == [told, 2 if told else 0], (behind, ended)
-        is_traced(printed, 6)
+    for behind, told in (b"", ""), (BAD, "bad length 39\n"), (struct.pack("<I", 56), "cut\n"):
+        for workers in 1, 4:
+            server = Server(workers=workers)
+            came = slowly(server, INIT + bytes.fromhex(SENT) + behind)
+            if workers == 1:
+                assert came == INIT_REPLY + bytes.fromhex(GOT), came
+            assert came[:80] == INIT_REPLY and len(replies(came)) == 4, came
+            trace_of(server, told=told, lines=6)
 
 
 def sends_slowly(client, uniques):
@@ -81,34 +63,20 @@ def try_a_client_that_reads_late():
     last = 12_000
     for workers in 1, 4:
         server = Server(workers=workers)
-        with server.connect() as client:
-            client.sendall(INIT + CREATE)
-            came = take(client, len(INIT_REPLY) + 160)
-            sender = threading.Thread(target=sends_slowly, args=(client, range(3, last + 1)))
+        with Client(server) as client:
+            client.begin()
+            sender, came = threading.Thread(target=sends_slowly, args=(client.socket, range(3, last + 1))), b""
             sender.start()
-            while len(came) < len(INIT_REPLY) + 160 + 16 * (last - 2):
+            while len(came) < fuse.BARE_SIZE * (last - 2):
                 time.sleep(0.01)
-                more = client.recv(1500)
+                more = client.socket.recv(1500)
                 assert more, "the server ended"
                 came += more
             sender.join()
-            client.shutdown(socket.SHUT_WR)
-            assert take(client, 1) == b"", "more came"
-        assert sorted(replies(came)) == [(unique, 0) for unique in range(1, last + 1)], len(replies(came))
-        printed, *ended = server.ended()
-        assert ended == ["", 0], ended
-        is_traced(printed, 2 * (last - 1))
-
-
-def try_a_look_is_a_line_with_one_worker_alone():
-    """A GETLK of byte 9 by owner 8. With one worker its order and its reply are lines of the trace."""
-    for workers, lines in (1, 8), (4, 6):
-        server = Server(workers=workers)
-        came = talk(server, INIT + bytes.fromhex(SENT) + lock(31, 5, 8, 9, 0))
-        assert sorted(dict(replies(came))) == [1, 2, 3, 4, 5], came
-        printed, *ended = server.ended()
-        assert ended == ["", 0], ended
-        is_traced(printed, lines)
+            client.closes()
+            assert client.rest() == [], "more came"
+        assert sorted(replies(came)) == [(unique, 0) for unique in range(3, last + 1)], len(replies(came))
+        trace_of(server, lines=2 * (last - 1))
 
 
 def try_paths_that_cannot_be_bound():
@@ -122,6 +90,52 @@ def try_paths_that_cannot_be_bound():
                 assert (ran.stdout, ran.stderr, ran.returncode) == (b"", b"cannot listen\n", 2), ran
             client.connect(f"{folder}/socket")
         assert os.path.exists(file.name)
+
+
+def puts_a_file(path):
+    with open(path, "w", encoding="ascii") as file:
+        file.write("of somebody else\n")
+
+
+def puts_a_socket(path):
+    with socket.socket(socket.AF_UNIX) as other:
+        other.bind(path)
+
+
+def puts_a_link(path):
+    os.symlink("moved", path)
+
+
+def which(path):
+    """Which file is at a path, and of what kind and size."""
+    found = os.lstat(path)
+    return found.st_dev, found.st_ino, found.st_mode, found.st_size
+
+
+def try_a_file_of_somebody_else():
+    """While the server listens, somebody renames its socket, and then renames another file to its path. A client connects by the new name. The other
+    file stays: a plain one, another socket, a pipe, a folder, or a link to the server's own socket."""
+    for workers, puts in itertools.product((1, 4), (puts_a_file, puts_a_socket, os.mkfifo, os.mkdir, puts_a_link)):
+        server = tracing("none", workers=workers)
+        tries.wait_until(lambda: os.path.exists(server.path) and is_accepting(server))
+        theirs, moved = f"{server.folder.name}/theirs", f"{server.folder.name}/moved"
+        puts(theirs)
+        before = which(theirs)
+        os.rename(server.path, moved)
+        os.rename(theirs, server.path)
+        listens_at, server.path = server.path, moved
+        with Client(server) as client:
+            client.begin()
+            assert which(listens_at) == before, puts
+        assert server.ended() == (b"", "", 0)
+        assert which(listens_at) == before, puts
+        assert sorted(os.listdir(server.folder.name)) == ["moved", "socket"]
+
+
+def is_accepting(server):
+    """It waits for a connection. The first word of the file is the call's number."""
+    with open(f"/proc/{server.serving.pid}/syscall", encoding="ascii") as file:
+        return file.read().split()[0] in ("43", "288")
 
 
 # ---- both
@@ -147,88 +161,42 @@ def try_a_session_of_both():
     server = Server()
     printed = driven(server, f"{line_of(INIT)}recv 1\n{SENT}recv 3\n")
     assert printed == line_of(INIT_REPLY) + GOT, printed
-    trace, *ended = server.ended()
-    assert ended == ["", 0], ended
-    is_traced(trace, 6)
+    trace_of(server, lines=6)
 
 
 def try_a_bad_length_of_a_client():
     server = Server()
     ran = drive(server, f"{line_of(INIT)}recv 1\n00000000\nrecv 1\n")
     assert (ran.stdout.decode(), ran.stderr, ran.returncode) == (line_of(INIT_REPLY), b"cut\n", 2), ran
-    assert server.ended() == (b"", "bad length 0\n", 2)
+    assert trace_of(server, told="bad length 0\n") == ""
 
 
 def hundred_files():
     """The CREATE of a hundred files, sent before a reply is waited for, and a DESTROY."""
-    files = (message(35, it + 2, 1, struct.pack("<IIII", 0, 0o100644, 0, 0) + b"f%02d\0" % it) for it in range(100))
-    return f"{line_of(INIT)}recv 1\n{''.join(map(line_of, files))}recv 100\n{line_of(message(38, 255, 0, b''))}recv 1\n"
-
-
-def asked(unique):
-    """Of ten orders one is a FORGET, three are a GETATTR of the top directory, and six a LOOKUP that finds nothing. Gives the size and the error of the
-    reply, too."""
-    if unique % 10 == 0:
-        return message(2, unique, 1, struct.pack("<Q", 1)), 0, None
-    if unique % 10 < 4:
-        return message(3, unique, 1, bytes(16)), 120, 0
-    return message(1, unique, 1, b"b\0"), 16, 2
-
-
-def try_all_that_is_owed():
-    """3,000 orders in bursts of 1 to 64, each sent when all replies to the one before have come; now and then workers fall asleep first. To each order but
-    a FORGET one reply comes, and nothing else. A GETATTR is no line."""
-    for workers in 2, 4, 16:
-        server = Server(workers=workers)
-        with server.connect() as client:
-            client.sendall(INIT)
-            take(client, 80)
-            first, size = 2, 1
-            while first < 3_002:
-                burst = range(first, min(first + size, 3_002))
-                client.sendall(b"".join(asked(it)[0] for it in burst))
-                came = take(client, sum(asked(it)[1] for it in burst))
-                assert sorted(replies(came)) == [(it, asked(it)[2]) for it in burst if asked(it)[1]], (workers, burst)
-                if size % 8 == 0:
-                    time.sleep(0.001)
-                first, size = first + size, size % 64 + 1
-            client.shutdown(socket.SHUT_WR)
-            assert take(client, 1) == b"", "more came"
-        printed, *ended = server.ended()
-        assert ended == ["", 0], ended
-        is_traced(printed, 300 + 2 * 1_800)
+    files = (fuse.create(it + 2, b"f%02d" % it, 0o100644) for it in range(100))
+    return f"{line_of(INIT)}recv 1\n{''.join(map(line_of, files))}recv 100\n{line_of(fuse.destroy(255))}recv 1\n"
 
 
 def try_a_hundred_files():
-    """Each is made, and the reply to the DESTROY comes last. The trace is printed, goes to a file, or nowhere."""
-    for workers in 1, 2, 4, 16:
-        for options in [], ["--trace", "{file}"], ["--trace", "none"]:
-            server = Server(*options, workers=workers)
-            printed = driven(server, hundred_files()).splitlines()
-            assert sum(len(it) == 320 and it.startswith("a000000000000000") for it in printed) == 100, printed
-            assert len(printed) == 102 and printed[-1] == "1000000000000000ff00000000000000", printed
-            trace, *ended = server.ended()
-            assert ended == ["", 0], ended
-            if options != ["--trace", "none"]:
-                is_traced(server.traced() if options else trace, 200)
-            assert not (options and trace), trace
+    """Each is made, and the reply to the DESTROY comes last."""
+    for workers, way in itertools.product((1, 2, 4, 16), ("printed", "file", "none")):
+        server = tracing(way, workers=workers)
+        printed = driven(server, hundred_files()).splitlines()
+        assert sum(len(it) == 320 and it.startswith("a000000000000000") for it in printed) == 100, printed
+        assert len(printed) == 102 and printed[-1] == "1000000000000000ff00000000000000", printed
+        trace_of(server, way, lines=200)
 
 
 def try_room_for_one_run():
     """Of two locks one finds no room. So the trace is legal under the server's rules, and under the standard ones it isn't."""
-    locks = line_of(lock(32, 3, 7, 0, 1)) + line_of(lock(32, 4, 8, 20, 0))
+    locks = line_of(lock(SETLK, 3, 7, 0, WRITE_LOCK)) + line_of(lock(SETLK, 4, 8, 20, READ_LOCK))
     sent = f"{line_of(INIT)}recv 1\n{line_of(CREATE)}recv 1\n{locks}recv 2\n"
-    for workers in 1, 4:
-        for options in [], ["--trace", "{file}"], ["--trace", "none"]:
-            server = Server("--runs", "1", *options, workers=workers)
-            errors = [error for _, error in replies(bytes.fromhex(driven(server, sent)))]
-            assert sorted(errors) == [0, 0, 0, ENOLCK], errors
-            trace, *ended = server.ended()
-            assert ended == ["", 0], ended
-            if options != ["--trace", "none"]:
-                trace = server.traced() if options else trace
-                is_traced(trace, 6, "--runs", "1")
-                assert judged(trace) == "differs 6\n", trace
+    for workers, way in itertools.product((1, 4), ("printed", "file", "none")):
+        server = tracing(way, "--runs", "1", workers=workers)
+        errors = [error for _, error in replies(bytes.fromhex(driven(server, sent)))]
+        assert sorted(errors) == [0, 0, 0, ENOLCK], errors
+        trace = trace_of(server, way, lines=6, options=("--runs", "1"))
+        assert trace is None or judged(trace.encode()) == "differs 6\n", trace
 
 
 # ---- clients
@@ -334,7 +302,7 @@ def refuses(text, told):
     assert (ran.stdout, ran.stderr.decode(), ran.returncode) == (b"", told, 2), (text, ran)
 
 
-def try_bad_lines():
+def try_bad_lines_of_a_client():
     """Each is the first or the third of a text, and no more than that is told: nothing is connected."""
     lines = """\
 recv 0

@@ -4,7 +4,6 @@ Each function `try_..` is one thing that is tried. `tries.py` says how it ends.
 """
 import array
 import contextlib
-import errno
 import fcntl
 import os
 import resource
@@ -12,28 +11,25 @@ import select
 import shutil
 import signal
 import socket
-import struct
 import subprocess
 import sys
 import tempfile
 import termios
 import threading
-import time
 
 from tests import tries
-from tests.tries import CREATE, INIT, PATIENCE, Server, judged, limited, lock, message, peak, replies, run, setlk, take
+from tests.fuse import EINTR, ENOMEM, READ_LOCK, SETLK, SETLKW, WRITE_LOCK, interrupt
+from tests.serve.kit import checked, full, ignores_signal, may_have
+from tests.tries import CREATE, INIT, PATIENCE, Server, judged, limited, lock, peak, replies, run, setlk, take
 
-EINTR = 4
-ENOMEM = 12
-# How many orders `try_memory_stays` gives a server: `ORDERS=10000000 tests/serve/traces.py try_memory_stays` takes some minutes, and a gigabyte of disk.
+# How many orders `try_memory_stays` gives a server: `ORDERS=10000000 tests/run serve/traces try_memory_stays` takes some minutes, and a gigabyte of disk.
 MANY = int(os.environ.get("ORDERS", "300000"))
 FEW = min(100_000, MANY // 10)
 
 
 def is_whole(trace, count):
     """The trace is legal, and has the CREATE and so many orders, each with its reply."""
-    assert judged(trace) == "legal\n", judged(trace)
-    assert trace.count(b"\n") == 2 * (count + 1), trace.count(b"\n")
+    checked(trace, 2 * (count + 1))
 
 
 def try_printed():
@@ -74,18 +70,6 @@ def try_no_socket():
     assert not os.path.exists(f"{server.file}.other")
     server.session(1)
     server.ended()
-
-
-def try_lines_are_there_while_it_sleeps():
-    server = Server("--trace", "{file}")
-    with server.connect() as client:
-        client.sendall(INIT + CREATE + setlk(3))
-        take(client, 80 + 160 + 16)
-        last = time.monotonic() + PATIENCE
-        while server.traced().count(b"\n") < 4 and time.monotonic() < last:
-            time.sleep(0.01)
-        is_whole(server.traced(), 1)
-    assert server.ended() == (b"", "", 0)
 
 
 def server_peaks(server, *counts):
@@ -187,11 +171,6 @@ def try_a_device_that_is_always_full():
         assert server.ended() == (None, "write failed\n", 2)
 
 
-def full(server):
-    """What is told of a file that can't grow."""
-    return f"cannot write {server.file}: {os.strerror(errno.EFBIG)} (os error {errno.EFBIG})\n"
-
-
 def try_a_full_file_goes_on():
     for workers in 1, 4:
         server = Server("--trace", "{file}", workers=workers, before=limited(100_000))
@@ -206,15 +185,10 @@ FULL = 100_000
 def refusing(workers):
     """A server that refuses orders while its trace's file can't be written, which may have so many bytes."""
     def limit():
-        signal.signal(signal.SIGXFSZ, signal.SIG_IGN)
+        ignores_signal()
         resource.setrlimit(resource.RLIMIT_FSIZE, (FULL, resource.RLIM_INFINITY))
 
     return Server("--trace", "{file}", "--trace-full", "refuse", workers=workers, before=limit)
-
-
-def make_room(server):
-    """The server's files may have any number of bytes from now on."""
-    resource.prlimit(server.serving.pid, resource.RLIMIT_FSIZE, (resource.RLIM_INFINITY, resource.RLIM_INFINITY))
 
 
 def can_read(client, seconds=0.0):
@@ -269,7 +243,7 @@ def try_a_full_file_refuses():
             more = replies(take(client, 16 * 64))
             assert sorted(more) == [(unique, ENOMEM) for unique in range(last, last + 64)], more
             assert not can_read(client, 0.3)
-            make_room(server)
+            may_have(server)
             told += more + came(server, client, waiting)
             client.sendall(setlk(last + 64))
             told += replies(take(client, 16))
@@ -282,8 +256,7 @@ def try_a_full_file_refuses():
 
 def limit_to(server, more):
     """The server's file may have so many bytes more."""
-    limit = os.path.getsize(server.file) + more
-    resource.prlimit(server.serving.pid, resource.RLIMIT_FSIZE, (limit, resource.RLIM_INFINITY))
+    may_have(server, os.path.getsize(server.file) + more)
 
 
 def of_two_digits(server, client):
@@ -307,7 +280,7 @@ def try_replies_leave_before_a_worker_waits():
                 client.sendall(setlk(unique) + setlk(unique + 1))
                 told = replies(take(client, 16))
                 assert not can_read(client, 0.01)
-                make_room(server)
+                may_have(server)
                 told += replies(take(client, 16))
                 assert sorted(told) == [(unique, 0), (unique + 1, 0)], told
         server.ended()
@@ -326,7 +299,7 @@ def try_a_worker_waits_for_its_own_lines():
             limit_to(server, size)
             client.sendall(setlk(unique + 1))
             assert replies(take(client, 16)) == [(unique, 0)] and not can_read(client, 0.01)
-            make_room(server)
+            may_have(server)
             assert replies(take(client, 16)) == [(unique + 1, 0)]
     server.ended()
     is_whole(server.traced(), 41)
@@ -339,7 +312,7 @@ def try_a_client_that_goes_while_the_file_is_full():
         told, waiting = fill(server, client, 1)
         client.shutdown(socket.SHUT_WR)
         assert waiting == 1 and not can_read(client, 0.5) and server.serving.poll() is None
-        make_room(server)
+        may_have(server)
         told += replies(take(client, 32))
     is_whole_again(server, told)
 
@@ -408,27 +381,17 @@ def try_a_fair_server():
     for workers in 1, 4:
         server = Server("--fair", "--trace", "{file}", workers=workers)
         with server.connect() as client:
-            for order, size in (INIT + CREATE, 80 + 160), (lock(32, 3, 7, 0, 0), 16):
+            for order, size in (INIT + CREATE, 80 + 160), (lock(SETLK, 3, 7, 0, READ_LOCK), 16):
                 client.sendall(order)
                 take(client, size)
-            for order, lines in (lock(33, 4, 8, 0, 1), 5), (lock(33, 6, 9, 0, 0), 6):
+            for order, lines in (lock(SETLKW, 4, 8, 0, WRITE_LOCK), 5), (lock(SETLKW, 6, 9, 0, READ_LOCK), 6):
                 client.sendall(order)
                 tries.wait_until(lambda: server.traced().count(b"\n") >= lines)
-            client.sendall(message(36, 8, 0, struct.pack("<Q", 4)))
+            client.sendall(interrupt(8, 4))
             assert replies(take(client, 32)) == [(4, EINTR), (6, 0)]
         assert server.ended() == (b"", "", 0)
         assert judged(server.traced(), "--fair") == "legal\n"
         assert judged(server.traced()) == "differs 7\n"
-
-
-def try_both_faults():
-    server = Server("--trace", "{file}", before=limited(100))
-    with server.connect() as client:
-        client.sendall(INIT + CREATE + setlk(3) + struct.pack("<I", 39))
-        client.shutdown(socket.SHUT_WR)
-        while client.recv(4096):
-            pass
-    assert server.ended() == (b"", f"{full(server)}bad length 39\ntrace failed\n", 2)
 
 
 if __name__ == "__main__":
