@@ -19,7 +19,7 @@ from concurrent.futures import ThreadPoolExecutor
 
 from tests import tries
 from tests.resume import kit
-from tests.tries import CREATE, PATIENCE, Server, judged, run, setlk, wait_until
+from tests.tries import CREATE, PATIENCE, PROGRAM, Server, judged, run, setlk, wait_until
 from tests.resume.kit import (EAGAIN, FEW, KILLED, LINES, READ, SETLK, UNLOCK, WORKED, WRITE, Client, Gone, asks, completed, goes_on, is_stored,
                              is_whole, locks, resuming, text_of)
 
