@@ -45,13 +45,13 @@ class Mount:
         return next(pid for pid, words in children_of(self.running.pid) if b"serve" in words)
 
     def end(self, how=None):
-        """Unmounts, or ends otherwise. Gives the status and the words of the last line."""
+        """Unmounts, or ends otherwise. Gives the status and the words of the last line. A long trace is judged meanwhile."""
         if how:
             how()
         else:
             has_closed_files(self.folder)
             unmount(self.folder)
-        status = self.running.wait(timeout=PATIENCE)
+        status = self.running.wait(timeout=10 * PATIENCE)
         return status, self.output().splitlines()[-1]
 
     def term(self):
