@@ -56,8 +56,8 @@ static bool read_folder(const struct fuse_in_header *head, const char *body, siz
     if (room && read.offset < 2)
         room = append(&list, ROOT, 2, S_IFDIR, "..");
     if (head->nodeid == ROOT)
-        for (struct node *it = node_after(read.offset); room && it; it = node_after(it->cookie))
-            room = append(&list, it->number, it->cookie, it->mode, it->name);
+        for (struct node *node = node_after(read.offset); room && node; node = node_after(node->cookie))
+            room = append(&list, node->number, node->cookie, node->mode, node->name);
     table_unlock();
     return answer(head->unique, 0, list.bytes, list.size);
 }

@@ -45,7 +45,7 @@ static struct {
     atomic_ullong refused, lines;
     // Messages by opcode; those of all greater ones in the last.
     _Alignas(CACHE_LINE) atomic_ullong seen[OPCODES];
-} it = {.lock = PTHREAD_MUTEX_INITIALIZER, .changed = PTHREAD_COND_INITIALIZER};
+} carrier = {.lock = PTHREAD_MUTEX_INITIALIZER, .changed = PTHREAD_COND_INITIALIZER};
 
 // Adds one where no other thread writes.
 static void count(atomic_ullong *counter)
@@ -64,33 +64,33 @@ static void signal_to(int event)
 static void finish(enum end end, int fault)
 {
     int before = RUNNING;
-    bool counts = atomic_compare_exchange_strong(&it.end, &before, (int)end);
-    if (!counts && it.resumes && before == SERVER_ENDED && end != SERVER_ENDED)
-        counts = atomic_compare_exchange_strong(&it.end, &before, (int)end);
+    bool counts = atomic_compare_exchange_strong(&carrier.end, &before, (int)end);
+    if (!counts && carrier.resumes && before == SERVER_ENDED && end != SERVER_ENDED)
+        counts = atomic_compare_exchange_strong(&carrier.end, &before, (int)end);
     if (counts) {
-        atomic_store(&it.fault, fault);
-        signal_to(it.news);
+        atomic_store(&carrier.fault, fault);
+        signal_to(carrier.news);
     }
 }
 
 // Whether nothing more is to be sent to this server.
 static bool is_cut_off(void)
 {
-    return atomic_load_explicit(&it.stops, memory_order_relaxed) || atomic_load_explicit(&it.cut, memory_order_relaxed);
+    return atomic_load_explicit(&carrier.stops, memory_order_relaxed) || atomic_load_explicit(&carrier.cut, memory_order_relaxed);
 }
 
 // Waits for another server, if one may come. False if none does.
 static bool meets_another(void)
 {
-    pthread_mutex_lock(&it.lock);
-    unsigned servers = it.servers;
-    it.idle++;
-    pthread_cond_broadcast(&it.changed);
-    while (it.resumes && !atomic_load(&it.stops) && it.servers == servers)
-        pthread_cond_wait(&it.changed, &it.lock);
-    bool met = it.servers != servers;
-    it.idle -= met;
-    pthread_mutex_unlock(&it.lock);
+    pthread_mutex_lock(&carrier.lock);
+    unsigned servers = carrier.servers;
+    carrier.idle++;
+    pthread_cond_broadcast(&carrier.changed);
+    while (carrier.resumes && !atomic_load(&carrier.stops) && carrier.servers == servers)
+        pthread_cond_wait(&carrier.changed, &carrier.lock);
+    bool met = carrier.servers != servers;
+    carrier.idle -= met;
+    pthread_mutex_unlock(&carrier.lock);
     return met;
 }
 
@@ -116,7 +116,7 @@ static bool spins_again(struct spinner *me)
 static bool send_all(const char *from, size_t size)
 {
     while (size) {
-        ssize_t sent = send(it.server, from, size, MSG_NOSIGNAL);
+        ssize_t sent = send(carrier.server, from, size, MSG_NOSIGNAL);
         if (sent < 0 && errno == EINTR)
             continue;
         if (sent <= 0)
@@ -132,7 +132,7 @@ static bool send_message(const char *message, size_t size)
     struct fuse_in_header head;
     memcpy(&head, message, sizeof head);
     times_note("ask", head.unique);
-    if (it.resumes && !kept_add(message, size)) {
+    if (carrier.resumes && !kept_add(message, size)) {
         finish(DEVICE_FAILED, ENOMEM);
         return false;
     }
@@ -152,22 +152,22 @@ void send_later(const void *message, size_t size)
     letter->next = NULL;
     letter->size = size;
     memcpy(letter->message, message, size);
-    pthread_mutex_lock(&it.lock);
-    *it.last = letter;
-    it.last = &letter->next;
-    atomic_store(&it.letters, true);
-    pthread_mutex_unlock(&it.lock);
-    signal_to(it.wake);
+    pthread_mutex_lock(&carrier.lock);
+    *carrier.last = letter;
+    carrier.last = &letter->next;
+    atomic_store(&carrier.letters, true);
+    pthread_mutex_unlock(&carrier.lock);
+    signal_to(carrier.wake);
 }
 
 static struct letter *letters_taken(void)
 {
-    pthread_mutex_lock(&it.lock);
-    struct letter *first = it.first;
-    it.first = NULL;
-    it.last = &it.first;
-    atomic_store(&it.letters, false);
-    pthread_mutex_unlock(&it.lock);
+    pthread_mutex_lock(&carrier.lock);
+    struct letter *first = carrier.first;
+    carrier.first = NULL;
+    carrier.last = &carrier.first;
+    atomic_store(&carrier.letters, false);
+    pthread_mutex_unlock(&carrier.lock);
     return first;
 }
 
@@ -187,11 +187,11 @@ static bool send_letters(void)
 // False where nothing is mounted.
 static bool sleep_until_woken(bool or_message)
 {
-    struct pollfd events[] = {{.fd = it.wake, .events = POLLIN}, {.fd = it.device}};
+    struct pollfd events[] = {{.fd = carrier.wake, .events = POLLIN}, {.fd = carrier.device}};
     uint64_t times;
     events[1].events = or_message ? POLLIN : 0;
     poll(events, 2, -1);
-    if (events[0].revents && read(it.wake, &times, sizeof times) < 0)
+    if (events[0].revents && read(carrier.wake, &times, sizeof times) < 0)
         return true;
     return !(events[1].revents & POLLERR);
 }
@@ -200,12 +200,12 @@ static bool sleep_until_woken(bool or_message)
 // might take it first. The next open file may stand where the closed one stood, and have its owner.
 static bool send_letters_first(void)
 {
-    if (!atomic_load(&it.letters) && !atomic_load(&session.flushes))
+    if (!atomic_load(&carrier.letters) && !atomic_load(&session.flushes))
         return true;
     bool well = send_letters();
     while (well && atomic_load(&session.flushes) && !is_cut_off() && sleep_until_woken(false))
         ;
-    return well && !atomic_load(&it.cut);
+    return well && !atomic_load(&carrier.cut);
 }
 
 // The message that was read and isn't sent yet: its size is 0 if there is none.
@@ -236,7 +236,7 @@ static bool take_message(ssize_t size)
         return false;
     }
     uint32_t opcode = ((struct fuse_in_header *)(void *)at_hand.bytes)->opcode;
-    count(&it.seen[opcode < OPCODES ? opcode : OPCODES - 1]);
+    count(&carrier.seen[opcode < OPCODES ? opcode : OPCODES - 1]);
     at_hand.size = change_message(at_hand.bytes, (size_t)size);
     return true;
 }
@@ -247,7 +247,7 @@ static void carry_to_one_server(void)
 {
     static struct spinner me;
     while (send_letters_first() && send_at_hand() && !is_cut_off()) {
-        ssize_t size = read(it.device, at_hand.bytes, MOST);
+        ssize_t size = read(carrier.device, at_hand.bytes, MOST);
         if (size < 0 && errno == EAGAIN) {
             if (!spins_again(&me))
                 sleep_until_woken(true);
@@ -271,11 +271,11 @@ static bool agree_again(void)
     memcpy(&head, message, sizeof head);
     atomic_store(&session.init, head.unique);
     // Its reply, and those to what is sent again, need not be new lines.
-    atomic_store(&it.lines, 0);
+    atomic_store(&carrier.lines, 0);
     bool well = send_all(message, size);
     while (well && atomic_load(&session.init) && !is_cut_off() && sleep_until_woken(false))
         ;
-    return well && atomic_load(&it.end) == RUNNING;
+    return well && atomic_load(&carrier.end) == RUNNING;
 }
 
 // What has no reply.
@@ -308,7 +308,7 @@ static void say_refused(int error)
 {
     static atomic_llong last = -1;
     long long second = (long long)seconds(), said = atomic_load(&last);
-    unsigned long long refused = atomic_fetch_add(&it.refused, 1) + 1;
+    unsigned long long refused = atomic_fetch_add(&carrier.refused, 1) + 1;
     if (second != said && atomic_compare_exchange_strong(&last, &said, second))
         say("the kernel refused a reply: %s; %llu so far", strerror(error), refused);
 }
@@ -327,7 +327,7 @@ static bool is_taken(ssize_t written)
 bool write_reply(const char *reply, size_t size)
 {
     ssize_t written;
-    while ((written = write(it.device, reply, size)) < 0 && errno == EINTR)
+    while ((written = write(carrier.device, reply, size)) < 0 && errno == EINTR)
         ;
     return is_taken(written);
 }
@@ -338,20 +338,20 @@ bool answer(uint64_t unique, int error, const void *body, size_t size)
     struct iovec parts[] = {{&head, sizeof head}, {(void *)(uintptr_t)body, error ? 0 : size}};
     ssize_t written;
     head.len = (uint32_t)(sizeof head + parts[1].iov_len);
-    while ((written = writev(it.device, parts, parts[1].iov_len ? 2 : 1)) < 0 && errno == EINTR)
+    while ((written = writev(carrier.device, parts, parts[1].iov_len ? 2 : 1)) < 0 && errno == EINTR)
         ;
     return is_taken(written);
 }
 
 void carrier_agreed(void)
 {
-    atomic_store(&it.agreed, true);
-    signal_to(it.news);
+    atomic_store(&carrier.agreed, true);
+    signal_to(carrier.news);
 }
 
 void carrier_answered(void)
 {
-    signal_to(it.wake);
+    signal_to(carrier.wake);
 }
 
 void carrier_refused_init(int error)
@@ -382,13 +382,13 @@ static ssize_t write_replies(char *bytes, size_t held)
             break;
         times_note("tell", head.unique);
         if (is_a_line(&head))
-            count(&it.lines);
+            count(&carrier.lines);
         size_t left = change_reply(bytes + done, head.len);
         if (left && !write_reply(bytes + done, left))
             return -2;
-        if (it.resumes)
+        if (carrier.resumes)
             kept_answered(head.unique);
-        count(&it.replies);
+        count(&carrier.replies);
     }
     return (ssize_t)done;
 }
@@ -396,10 +396,10 @@ static ssize_t write_replies(char *bytes, size_t held)
 // The thread that carries messages may wait for this server to read, or for its reply to a FLUSH.
 static void see_end(int fault)
 {
-    if (it.resumes) {
-        atomic_store(&it.cut, true);
-        shutdown(it.server, SHUT_RDWR);
-        signal_to(it.wake);
+    if (carrier.resumes) {
+        atomic_store(&carrier.cut, true);
+        shutdown(carrier.server, SHUT_RDWR);
+        signal_to(carrier.wake);
     }
     finish(SERVER_ENDED, fault);
 }
@@ -412,7 +412,7 @@ static void carry_from_one_server(void)
     size_t held = 0;
     int waits = MSG_DONTWAIT;
     for (;;) {
-        ssize_t got = recv(it.server, bytes + held, sizeof bytes - held, waits);
+        ssize_t got = recv(carrier.server, bytes + held, sizeof bytes - held, waits);
         bool none = got < 0 && errno == EAGAIN;
         waits = !none || spins_again(&me) ? MSG_DONTWAIT : 0;
         if (none || (got < 0 && errno == EINTR))
@@ -446,18 +446,18 @@ static void *carry_replies(void *unused)
 
 void carrier_start(int device, int server, int news, bool discards_writes, bool resumes)
 {
-    it.device = device;
-    it.server = server;
-    it.news = news;
-    it.resumes = resumes;
-    it.last = &it.first;
-    it.wake = eventfd(0, EFD_CLOEXEC | EFD_NONBLOCK);
+    carrier.device = device;
+    carrier.server = server;
+    carrier.news = news;
+    carrier.resumes = resumes;
+    carrier.last = &carrier.first;
+    carrier.wake = eventfd(0, EFD_CLOEXEC | EFD_NONBLOCK);
     session.discards = discards_writes;
-    if (it.wake < 0 || fcntl(device, F_SETFL, O_NONBLOCK) < 0)
+    if (carrier.wake < 0 || fcntl(device, F_SETFL, O_NONBLOCK) < 0)
         fail("cannot carry messages");
     void *(*const carry[])(void *) = {carry_messages, carry_replies};
     for (int i = 0; i < 2; i++) {
-        errno = pthread_create(&it.threads[i], NULL, carry[i], NULL);
+        errno = pthread_create(&carrier.threads[i], NULL, carry[i], NULL);
         if (errno)
             fail("cannot carry messages");
     }
@@ -465,65 +465,65 @@ void carrier_start(int device, int server, int news, bool discards_writes, bool 
 
 bool carrier_meet(int server)
 {
-    pthread_mutex_lock(&it.lock);
-    while (it.idle < 2)
-        pthread_cond_wait(&it.changed, &it.lock);
+    pthread_mutex_lock(&carrier.lock);
+    while (carrier.idle < 2)
+        pthread_cond_wait(&carrier.changed, &carrier.lock);
     int ended = SERVER_ENDED;
-    bool meets = atomic_compare_exchange_strong(&it.end, &ended, RUNNING);
-    close(meets ? it.server : server);
+    bool meets = atomic_compare_exchange_strong(&carrier.end, &ended, RUNNING);
+    close(meets ? carrier.server : server);
     if (meets) {
-        it.server = server;
-        it.servers++;
-        atomic_store(&it.cut, false);
-        pthread_cond_broadcast(&it.changed);
+        carrier.server = server;
+        carrier.servers++;
+        atomic_store(&carrier.cut, false);
+        pthread_cond_broadcast(&carrier.changed);
     }
-    pthread_mutex_unlock(&it.lock);
+    pthread_mutex_unlock(&carrier.lock);
     return meets;
 }
 
 void carrier_stop(void)
 {
-    pthread_mutex_lock(&it.lock);
-    atomic_store(&it.stops, true);
-    pthread_cond_broadcast(&it.changed);
-    pthread_mutex_unlock(&it.lock);
-    signal_to(it.wake);
+    pthread_mutex_lock(&carrier.lock);
+    atomic_store(&carrier.stops, true);
+    pthread_cond_broadcast(&carrier.changed);
+    pthread_mutex_unlock(&carrier.lock);
+    signal_to(carrier.wake);
     // The server answers what it has, and ends. To read no more would fail its writes, so that is for one that hangs.
-    shutdown(it.server, SHUT_WR);
+    shutdown(carrier.server, SHUT_WR);
     struct timespec last;
     clock_gettime(CLOCK_REALTIME, &last);
     last.tv_sec++;
-    if (pthread_timedjoin_np(it.threads[1], NULL, &last)) {
-        shutdown(it.server, SHUT_RDWR);
-        pthread_join(it.threads[1], NULL);
+    if (pthread_timedjoin_np(carrier.threads[1], NULL, &last)) {
+        shutdown(carrier.server, SHUT_RDWR);
+        pthread_join(carrier.threads[1], NULL);
     }
-    pthread_join(it.threads[0], NULL);
+    pthread_join(carrier.threads[0], NULL);
     for (struct letter *letter = letters_taken(), *next; letter; letter = next) {
         next = letter->next;
         free(letter);
     }
     kept_end();
-    close(it.device);
-    close(it.wake);
+    close(carrier.device);
+    close(carrier.wake);
 }
 
 enum end carrier_end(int *fault)
 {
-    *fault = atomic_load(&it.fault);
-    return (enum end)atomic_load(&it.end);
+    *fault = atomic_load(&carrier.fault);
+    return (enum end)atomic_load(&carrier.end);
 }
 
 bool carrier_is_agreed(void)
 {
-    return atomic_load(&it.agreed);
+    return atomic_load(&carrier.agreed);
 }
 
 void carrier_counts(struct counts *counts)
 {
-    *counts = (struct counts){.replies = atomic_load(&it.replies), .refused = atomic_load(&it.refused),
-                              .lines = atomic_load(&it.lines)};
+    *counts = (struct counts){.replies = atomic_load(&carrier.replies), .refused = atomic_load(&carrier.refused),
+                              .lines = atomic_load(&carrier.lines)};
     for (size_t opcode = 0; opcode < OPCODES; opcode++)
-        counts->messages += atomic_load(&it.seen[opcode]);
+        counts->messages += atomic_load(&carrier.seen[opcode]);
 }
 
 void carrier_print_opcodes(void)
@@ -531,7 +531,7 @@ void carrier_print_opcodes(void)
     char line[32 * OPCODES] = "messages of the kernel, opcode and how many:";
     size_t size = strlen(line);
     for (size_t opcode = 0; opcode < OPCODES; opcode++) {
-        unsigned long long seen = atomic_load(&it.seen[opcode]);
+        unsigned long long seen = atomic_load(&carrier.seen[opcode]);
         if (seen)
             size += (size_t)snprintf(line + size, sizeof line - size, " %zu:%llu", opcode, seen);
     }

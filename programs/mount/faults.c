@@ -20,7 +20,7 @@ static struct {
     const char *trace;
     char why[256]; // the thread's, as the next one, until it has ended
     bool failed;
-} it;
+} faults;
 
 // What follows this word at the front of a text, or NULL.
 static const char *behind(const char *text, const char *word)
@@ -32,11 +32,11 @@ static const char *behind(const char *text, const char *word)
 // A line, without its newline.
 static void note(const char *line)
 {
-    const char *why = behind(behind(behind(line, "cannot write "), it.trace), ": ");
-    const char *again = behind(behind(line, it.trace), " is written again");
+    const char *why = behind(behind(behind(line, "cannot write "), faults.trace), ": ");
+    const char *again = behind(behind(line, faults.trace), " is written again");
     if (why || again)
-        snprintf(it.why, sizeof it.why, "%s", why ? why : "");
-    it.failed |= !strcmp(line, "trace failed");
+        snprintf(faults.why, sizeof faults.why, "%s", why ? why : "");
+    faults.failed |= !strcmp(line, "trace failed");
 }
 
 static void pass_on(char *line, size_t size)
@@ -49,7 +49,7 @@ static void pass_on(char *line, size_t size)
 // Waits for what is to be read. False at the end: a process that the server has started may have the pipe for longer.
 static bool waits_for_more(void)
 {
-    struct pollfd events[] = {{.fd = it.pipe, .events = POLLIN}, {.fd = it.ended, .events = POLLIN}};
+    struct pollfd events[] = {{.fd = faults.pipe, .events = POLLIN}, {.fd = faults.ended, .events = POLLIN}};
     while (poll(events, 2, -1) < 0)
         ;
     return events[0].revents;
@@ -62,7 +62,7 @@ static void *hear(void *unused)
     size_t held = 0;
     ssize_t got;
     (void)unused;
-    while (waits_for_more() && (got = read(it.pipe, line + held, sizeof line - held)) > 0) {
+    while (waits_for_more() && (got = read(faults.pipe, line + held, sizeof line - held)) > 0) {
         held += (size_t)got;
         for (char *end; (end = memchr(line, '\n', held)) || held == sizeof line;) {
             size_t size = end ? (size_t)(end - line) + 1 : held;
@@ -74,7 +74,7 @@ static void *hear(void *unused)
     if (held)
         pass_on(line, held);
     // Nobody hears the server any more: its writes fail, and don't wait.
-    close(it.pipe);
+    close(faults.pipe);
     return NULL;
 }
 
@@ -83,38 +83,38 @@ int faults_open(const char *trace)
     int ends[2];
     if (pipe2(ends, O_CLOEXEC) < 0)
         return -1;
-    it.pipe = ends[0];
-    it.ended = eventfd(0, EFD_CLOEXEC);
-    it.trace = trace;
-    it.failed = false;
-    it.why[0] = 0;
-    if (it.ended >= 0)
-        errno = pthread_create(&it.thread, NULL, hear, NULL);
-    it.is_heard = it.ended >= 0 && !errno;
-    if (it.is_heard)
+    faults.pipe = ends[0];
+    faults.ended = eventfd(0, EFD_CLOEXEC);
+    faults.trace = trace;
+    faults.failed = false;
+    faults.why[0] = 0;
+    if (faults.ended >= 0)
+        errno = pthread_create(&faults.thread, NULL, hear, NULL);
+    faults.is_heard = faults.ended >= 0 && !errno;
+    if (faults.is_heard)
         return ends[1];
     close(ends[0]);
     close(ends[1]);
-    if (it.ended >= 0)
-        close(it.ended);
+    if (faults.ended >= 0)
+        close(faults.ended);
     return -1;
 }
 
 void faults_end(void)
 {
     uint64_t one = 1;
-    if (!it.is_heard || write(it.ended, &one, sizeof one) < 0)
+    if (!faults.is_heard || write(faults.ended, &one, sizeof one) < 0)
         return;
-    pthread_join(it.thread, NULL);
-    close(it.ended);
-    it.is_heard = false;
+    pthread_join(faults.thread, NULL);
+    close(faults.ended);
+    faults.is_heard = false;
 }
 
 bool faults_of_trace(char *said, size_t room)
 {
-    if (it.failed && it.why[0])
-        snprintf(said, room, ": %s lacks lines, since it couldn't be written: %s", it.trace, it.why);
-    else if (it.failed)
-        snprintf(said, room, ": %s lacks lines, or was removed or replaced", it.trace);
-    return it.failed;
+    if (faults.failed && faults.why[0])
+        snprintf(said, room, ": %s lacks lines, since it couldn't be written: %s", faults.trace, faults.why);
+    else if (faults.failed)
+        snprintf(said, room, ": %s lacks lines, or was removed or replaced", faults.trace);
+    return faults.failed;
 }

@@ -30,8 +30,8 @@ static bool holds_a_file(int process, dev_t device)
             close(fds);
         return false;
     }
-    for (struct dirent *it; !found && (it = readdir(list));)
-        found = isdigit((unsigned char)*it->d_name) && leads_into(fds, it->d_name, device);
+    for (struct dirent *entry; !found && (entry = readdir(list));)
+        found = isdigit((unsigned char)*entry->d_name) && leads_into(fds, entry->d_name, device);
     closedir(list);
     return found;
 }
@@ -42,9 +42,9 @@ void find_holders(dev_t device, struct holders *holders)
     DIR *list = opendir("/proc");
     if (!list)
         return;
-    for (struct dirent *it; (it = readdir(list));) {
-        pid_t pid = (pid_t)atoi(it->d_name);
-        int process = pid > 0 && pid != getpid() ? openat(dirfd(list), it->d_name, O_RDONLY | O_DIRECTORY | O_CLOEXEC) : -1;
+    for (struct dirent *entry; (entry = readdir(list));) {
+        pid_t pid = (pid_t)atoi(entry->d_name);
+        int process = pid > 0 && pid != getpid() ? openat(dirfd(list), entry->d_name, O_RDONLY | O_DIRECTORY | O_CLOEXEC) : -1;
         if (process < 0)
             continue;
         if (leads_into(process, "cwd", device) || leads_into(process, "root", device) || holds_a_file(process, device)) {
@@ -138,8 +138,8 @@ static bool is_mounted(dev_t device)
 {
     bool found = false;
     DIR *list = opendir("/proc");
-    for (struct dirent *it; list && !found && (it = readdir(list));) {
-        pid_t pid = (pid_t)atoi(it->d_name);
+    for (struct dirent *entry; list && !found && (entry = readdir(list));) {
+        pid_t pid = (pid_t)atoi(entry->d_name);
         found = pid > 0 && find_mounts(pid, device, "").elsewhere;
     }
     if (list)

@@ -54,36 +54,36 @@ static struct kept **chain_of(uint64_t unique)
 
 static struct kept *copy_of(const char *message, size_t size, uint64_t unique)
 {
-    struct kept *it = size <= SMALL ? all.spare : NULL;
-    if (it)
-        all.spare = it->next;
+    struct kept *kept = size <= SMALL ? all.spare : NULL;
+    if (kept)
+        all.spare = kept->next;
     else
-        it = malloc(sizeof *it + (size < SMALL ? SMALL : size));
-    if (it) {
-        *it = (struct kept){.unique = unique, .size = size};
-        memcpy(it->message, message, size);
+        kept = malloc(sizeof *kept + (size < SMALL ? SMALL : size));
+    if (kept) {
+        *kept = (struct kept){.unique = unique, .size = size};
+        memcpy(kept->message, message, size);
     }
-    return it;
+    return kept;
 }
 
-static void put_last(struct kept *it)
+static void put_last(struct kept *kept)
 {
-    it->number = ++all.count;
-    it->before = all.last;
-    *(all.last ? &all.last->after : &all.first) = it;
-    all.last = it;
+    kept->number = ++all.count;
+    kept->before = all.last;
+    *(all.last ? &all.last->after : &all.first) = kept;
+    all.last = kept;
 }
 
-static void put_in_chain(struct kept *it)
+static void put_in_chain(struct kept *kept)
 {
-    it->next = *chain_of(it->unique);
-    *chain_of(it->unique) = it;
+    kept->next = *chain_of(kept->unique);
+    *chain_of(kept->unique) = kept;
 }
 
-static void put_with_the_silent(struct kept *it)
+static void put_with_the_silent(struct kept *kept)
 {
-    *all.silent_end = it;
-    all.silent_end = &it->next_silent;
+    *all.silent_end = kept;
+    all.silent_end = &kept->next_silent;
 }
 
 bool kept_add(const char *message, size_t size)
@@ -96,60 +96,60 @@ bool kept_add(const char *message, size_t size)
         return true;
     }
     pthread_mutex_lock(&all.lock);
-    struct kept *it = copy_of(message, size, head.unique);
-    if (it)
-        put_last(it);
-    if (it && may_get_a_reply(head.opcode))
-        put_in_chain(it);
-    if (it && may_get_none(head.opcode))
-        put_with_the_silent(it);
+    struct kept *kept = copy_of(message, size, head.unique);
+    if (kept)
+        put_last(kept);
+    if (kept && may_get_a_reply(head.opcode))
+        put_in_chain(kept);
+    if (kept && may_get_none(head.opcode))
+        put_with_the_silent(kept);
     pthread_mutex_unlock(&all.lock);
-    return it != NULL;
+    return kept != NULL;
 }
 
-static void let_go(struct kept *it)
+static void let_go(struct kept *kept)
 {
-    if (it->size > SMALL) {
-        free(it);
+    if (kept->size > SMALL) {
+        free(kept);
         return;
     }
-    it->next = all.spare;
-    all.spare = it;
+    kept->next = all.spare;
+    all.spare = kept;
 }
 
-static void drop(struct kept *it)
+static void drop(struct kept *kept)
 {
-    struct kept **at = chain_of(it->unique);
-    while (*at && *at != it)
+    struct kept **at = chain_of(kept->unique);
+    while (*at && *at != kept)
         at = &(*at)->next;
     if (*at)
-        *at = it->next;
-    *(it->before ? &it->before->after : &all.first) = it->after;
-    *(it->after ? &it->after->before : &all.last) = it->before;
-    let_go(it);
+        *at = kept->next;
+    *(kept->before ? &kept->before->after : &all.first) = kept->after;
+    *(kept->after ? &kept->after->before : &all.last) = kept->before;
+    let_go(kept);
 }
 
 static void drop_first_silent(void)
 {
-    struct kept *it = all.silent;
-    all.silent = it->next_silent;
+    struct kept *kept = all.silent;
+    all.silent = kept->next_silent;
     if (!all.silent)
         all.silent_end = &all.silent;
-    drop(it);
+    drop(kept);
 }
 
 void kept_answered(uint64_t unique)
 {
     pthread_mutex_lock(&all.lock);
-    struct kept *it = *chain_of(unique);
-    while (it && it->unique != unique)
-        it = it->next;
-    while (it && all.silent && all.silent->number < it->number)
+    struct kept *kept = *chain_of(unique);
+    while (kept && kept->unique != unique)
+        kept = kept->next;
+    while (kept && all.silent && all.silent->number < kept->number)
         drop_first_silent();
-    if (it && it == all.silent)
+    if (kept && kept == all.silent)
         drop_first_silent();
-    else if (it)
-        drop(it);
+    else if (kept)
+        drop(kept);
     pthread_mutex_unlock(&all.lock);
 }
 
@@ -159,10 +159,10 @@ size_t kept_init(char *to)
     return all.init_size;
 }
 
-static void copy_marked(char *to, const struct kept *it)
+static void copy_marked(char *to, const struct kept *kept)
 {
     struct fuse_in_header head;
-    memcpy(to, it->message, it->size);
+    memcpy(to, kept->message, kept->size);
     memcpy(&head, to, sizeof head);
     head.unique |= AGAIN;
     memcpy(to, &head, sizeof head);
@@ -172,13 +172,13 @@ size_t kept_copy(uint64_t *number, char *to, size_t room)
 {
     size_t size = 0;
     pthread_mutex_lock(&all.lock);
-    struct kept *it = all.first;
-    while (it && it->number <= *number)
-        it = it->after;
-    for (; it && it->size <= room - size; it = it->after) {
-        copy_marked(to + size, it);
-        size += it->size;
-        *number = it->number;
+    struct kept *kept = all.first;
+    while (kept && kept->number <= *number)
+        kept = kept->after;
+    for (; kept && kept->size <= room - size; kept = kept->after) {
+        copy_marked(to + size, kept);
+        size += kept->size;
+        *number = kept->number;
     }
     pthread_mutex_unlock(&all.lock);
     return size;
@@ -186,13 +186,13 @@ size_t kept_copy(uint64_t *number, char *to, size_t room)
 
 void kept_end(void)
 {
-    for (struct kept *it = all.first, *after; it; it = after) {
-        after = it->after;
-        free(it);
+    for (struct kept *kept = all.first, *after; kept; kept = after) {
+        after = kept->after;
+        free(kept);
     }
-    for (struct kept *it = all.spare, *next; it; it = next) {
-        next = it->next;
-        free(it);
+    for (struct kept *kept = all.spare, *next; kept; kept = next) {
+        next = kept->next;
+        free(kept);
     }
     all.first = all.last = all.spare = NULL;
 }

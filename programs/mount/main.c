@@ -25,7 +25,7 @@ static struct {
     int ending; // the signal that asked for the end while something else was waited for, or 0
     bool is_alone; // no other server came after the last one
     bool starts; // until it is mounted: what was begun is taken away at exit
-} it;
+} mount;
 
 // ---- Signals ----
 
@@ -45,9 +45,9 @@ static void take_signals(void)
     signal(SIGCHLD, SIG_DFL);
     signal(SIGXFSZ, SIG_IGN);
     sigprocmask(SIG_BLOCK, &set, NULL);
-    it.signals = signalfd(-1, &set, SFD_CLOEXEC | SFD_NONBLOCK);
-    it.news = eventfd(0, EFD_CLOEXEC | EFD_NONBLOCK);
-    if (it.signals < 0 || it.news < 0)
+    mount.signals = signalfd(-1, &set, SFD_CLOEXEC | SFD_NONBLOCK);
+    mount.news = eventfd(0, EFD_CLOEXEC | EFD_NONBLOCK);
+    if (mount.signals < 0 || mount.news < 0)
         fail("cannot wait for signals");
 }
 
@@ -68,8 +68,8 @@ static const char *counts_text(void)
 static int signal_to_end(void)
 {
     struct signalfd_siginfo came;
-    while (read(it.signals, &came, sizeof came) == sizeof came) {
-        if (came.ssi_signo == SIGUSR1 && !it.starts)
+    while (read(mount.signals, &came, sizeof came) == sizeof came) {
+        if (came.ssi_signo == SIGUSR1 && !mount.starts)
             say("%s", counts_text());
         else if (came.ssi_signo == SIGTERM || came.ssi_signo == SIGINT)
             return (int)came.ssi_signo;
@@ -81,16 +81,16 @@ static bool stops(void)
 {
     int came = signal_to_end();
     if (came)
-        it.ending = came;
+        mount.ending = came;
     return came != 0;
 }
 
 static void sleep_for(int milliseconds)
 {
-    struct pollfd events[] = {{.fd = it.signals, .events = POLLIN}, {.fd = it.news, .events = POLLIN}};
+    struct pollfd events[] = {{.fd = mount.signals, .events = POLLIN}, {.fd = mount.news, .events = POLLIN}};
     uint64_t count;
     poll(events, 2, milliseconds);
-    if (events[1].revents && read(it.news, &count, sizeof count) < 0)
+    if (events[1].revents && read(mount.news, &count, sizeof count) < 0)
         return;
 }
 
@@ -109,16 +109,16 @@ static void open_standard_files(void)
 
 static void take_away(void)
 {
-    if (!it.starts)
+    if (!mount.starts)
         return;
-    server_drop(&it.server);
+    server_drop(&mount.server);
     times_drop();
     record_release();
 }
 
 static void never_mounted(const char *why)
 {
-    place_unmount(&it.place, true);
+    place_unmount(&mount.place, true);
     record_remove();
     carrier_stop();
     errno = 0;
@@ -165,33 +165,33 @@ static void wait_until_ready(void)
     }
     if (!carrier_is_agreed())
         never_mounted(init_fault(end, fault));
-    if (!place_answers(&it.place, gives_up))
-        never_mounted(it.ending ? "a signal ended it as it started" : "no name could be looked up");
+    if (!place_answers(&mount.place, gives_up))
+        never_mounted(mount.ending ? "a signal ended it as it started" : "no name could be looked up");
 }
 
 static void begin(void)
 {
-    it.starts = true;
+    mount.starts = true;
     atexit(take_away);
-    place_open(&it.place, &it.options, stops);
-    times_start(it.options.times);
-    server_start(&it.server, &it.options, stops);
-    const struct options *options = &it.options;
-    names_start(options->files, options->mode < 0 ? it.place.below.st_mode : (mode_t)options->mode,
-                options->uid < 0 ? it.place.below.st_uid : (uid_t)options->uid,
-                options->gid < 0 ? it.place.below.st_gid : (gid_t)options->gid);
+    place_open(&mount.place, &mount.options, stops);
+    times_start(mount.options.times);
+    server_start(&mount.server, &mount.options, stops);
+    const struct options *options = &mount.options;
+    names_start(options->files, options->mode < 0 ? mount.place.below.st_mode : (mode_t)options->mode,
+                options->uid < 0 ? mount.place.below.st_uid : (uid_t)options->uid,
+                options->gid < 0 ? mount.place.below.st_gid : (gid_t)options->gid);
     opens_start(options->open);
-    int device = place_mount(&it.place, options);
+    int device = place_mount(&mount.place, options);
     if (device < 0)
         exit(STATUS_NOT_MOUNTED);
-    carrier_start(device, it.server.socket, it.news, options->discard_writes, options->resume != NULL);
+    carrier_start(device, mount.server.socket, mount.news, options->discard_writes, options->resume != NULL);
     wait_until_ready();
-    it.starts = false;
-    printf("mounted at %s\n", it.place.path);
-    if (!it.options.trace)
-        printf("its trace is %s\n", it.server.trace);
+    mount.starts = false;
+    printf("mounted at %s\n", mount.place.path);
+    if (!mount.options.trace)
+        printf("its trace is %s\n", mount.server.trace);
     fflush(stdout);
-    notify("READY=1\nSTATUS=mounted at %s", it.place.path);
+    notify("READY=1\nSTATUS=mounted at %s", mount.place.path);
 }
 
 // ---- While it runs ----
@@ -206,13 +206,13 @@ static void watch_trace(void)
     static bool said;
     struct counts counts;
     struct stat trace;
-    server_look(&it.server);
-    if (!it.server.trace[0] || stat(it.server.trace, &trace))
+    server_look(&mount.server);
+    if (!mount.server.trace[0] || stat(mount.server.trace, &trace))
         return;
     carrier_counts(&counts);
     bool stands = before[0].lines > before[1].lines && before[1].size == trace.st_size && before[1].lines;
     if (stands && !said)
-        say("the trace %s doesn't grow: is its disk full?", it.server.trace);
+        say("the trace %s doesn't grow: is its disk full?", mount.server.trace);
     said = stands;
     before[1] = before[0];
     before[0].lines = counts.lines;
@@ -233,7 +233,7 @@ static void tick(void)
 // With a grace, files are waited for, and to close one takes a server.
 static bool stops_twice(void)
 {
-    bool once = it.ending || !it.options.grace;
+    bool once = mount.ending || !mount.options.grace;
     return stops() && once;
 }
 
@@ -242,11 +242,11 @@ static bool goes_on(void)
 {
     int fault;
     double begun = seconds();
-    if (!it.options.resume || it.is_alone || carrier_end(&fault) != SERVER_ENDED)
+    if (!mount.options.resume || mount.is_alone || carrier_end(&fault) != SERVER_ENDED)
         return false;
-    int server = server_restart(&it.server, &it.options, stops_twice);
-    it.is_alone = server < 0;
-    if (it.is_alone || !carrier_meet(server))
+    int server = server_restart(&mount.server, &mount.options, stops_twice);
+    mount.is_alone = server < 0;
+    if (mount.is_alone || !carrier_meet(server))
         return false;
     say("the mount goes on, after %.2f seconds", seconds() - begun);
     return true;
@@ -257,22 +257,22 @@ static int run(void)
 {
     double next = seconds() + TICK / 1000.0;
     while (!is_over() || goes_on()) {
-        if (it.ending || stops())
-            return it.ending;
+        if (mount.ending || stops())
+            return mount.ending;
         if (seconds() >= next) {
             tick();
             next = seconds() + TICK / 1000.0;
         }
         sleep_for(TICK);
     }
-    return it.ending;
+    return mount.ending;
 }
 
 // ---- The end ----
 
 static unsigned open_files(struct holders *holders)
 {
-    find_holders(it.place.mounted, holders);
+    find_holders(mount.place.mounted, holders);
     table_lock();
     unsigned count = opens_count();
     if (!holders->count)
@@ -286,11 +286,11 @@ static unsigned open_files(struct holders *holders)
 static bool unmount_by(int signal)
 {
     struct holders holders = {0};
-    double begun = seconds(), last = begun + (double)it.options.grace;
+    double begun = seconds(), last = begun + (double)mount.options.grace;
     bool said = false;
     notify("STOPPING=1\nSTATUS=waiting for open files");
     for (;;) {
-        bool gone = place_unmount(&it.place, false);
+        bool gone = place_unmount(&mount.place, false);
         // The kernel tells the carrier in a moment, unless the mount is elsewhere too. On a busy machine the carrier
         // hears of a file that was just closed only then.
         for (int i = 0; gone && i < 40 && !is_over(); i++)
@@ -302,8 +302,8 @@ static bool unmount_by(int signal)
             say("SIG%s came; no file is open, but it is mounted elsewhere too", sigabbrev_np(signal));
         else if (!said)
             say("SIG%s came; %u files are open, of processes %s", sigabbrev_np(signal), count, holders_text(&holders));
-        if (!said && it.options.grace)
-            say("waiting %ld seconds for them; a second signal ends it at once", it.options.grace);
+        if (!said && mount.options.grace)
+            say("waiting %ld seconds for them; a second signal ends it at once", mount.options.grace);
         said = true;
         if (stops() || seconds() >= last)
             return !count && !holders.count;
@@ -314,10 +314,10 @@ static bool unmount_by(int signal)
 // Nobody has a file open. The server may take its time.
 static void end_mount(void)
 {
-    place_unmount(&it.place, true);
+    place_unmount(&mount.place, true);
     record_remove();
     carrier_stop();
-    place_leave(&it.place);
+    place_leave(&mount.place);
 }
 
 static int end_by(int signal)
@@ -329,11 +329,11 @@ static int end_by(int signal)
         return STATUS_UNMOUNTED;
     }
     unsigned count = open_files(&holders);
-    place_unmount(&it.place, true);
+    place_unmount(&mount.place, true);
     carrier_stop();
     say("ended with %u files open, and their locks are lost, of processes %s", count, holders_text(&holders));
     record_release();
-    place_leave(&it.place);
+    place_leave(&mount.place);
     return STATUS_LOST;
 }
 
@@ -341,14 +341,14 @@ static int end_by(int signal)
 // mounted, and each access there fails: nobody locks a file of the folder below instead.
 static void leave_dead(const struct holders *holders)
 {
-    bool mounted = place_is_mounted(&it.place);
+    bool mounted = place_is_mounted(&mount.place);
     carrier_stop();
     say("their locks are lost: files were open, of processes %s", holders_text(holders));
     if (mounted)
         say("%s stays unusable, so that nobody takes these locks meanwhile: end the processes and mount again, or `umount -l` it",
-            it.place.path);
+            mount.place.path);
     record_release();
-    place_leave(&it.place);
+    place_leave(&mount.place);
 }
 
 static int say_unexpected(enum end end, int fault)
@@ -375,7 +375,7 @@ static int say_unexpected(enum end end, int fault)
 static bool is_aborted(struct holders *holders)
 {
     for (int i = 0; i < ABORT_TRIES; i++) {
-        if (!connection_lives(it.place.mounted, holders))
+        if (!connection_lives(mount.place.mounted, holders))
             return false;
         if (holders->count)
             return true;
@@ -393,7 +393,7 @@ static int end_unmounted(void)
         leave_dead(&holders);
         return STATUS_LOST;
     }
-    say(place_is_mounted(&it.place) ? "the connection was aborted; no file was open" : "the folder was unmounted");
+    say(place_is_mounted(&mount.place) ? "the connection was aborted; no file was open" : "the folder was unmounted");
     end_mount();
     return STATUS_UNMOUNTED;
 }
@@ -414,18 +414,18 @@ int main(int argc, char **argv)
 {
     open_standard_files();
     say_without_waiting();
-    read_options(argc, argv, &it.options);
+    read_options(argc, argv, &mount.options);
     take_signals();
     begin();
     int fault, signal = run();
     enum end end = carrier_end(&fault);
     notify("STOPPING=1");
     int status = signal ? end_by(signal) : end == UNMOUNTED ? end_unmounted() : end_unexpected(end, fault);
-    if (it.options.count)
+    if (mount.options.count)
         carrier_print_opcodes();
     opens_end();
     names_end();
-    status = server_finish(&it.server, &it.options, status);
+    status = server_finish(&mount.server, &mount.options, status);
     fflush(NULL);
     return status;
 }

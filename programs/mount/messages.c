@@ -100,8 +100,8 @@ static void flush_owners(const struct fuse_in_header *release, uint64_t fh)
 {
     table_lock();
     struct owner *owners = open_closed(fh);
-    for (const struct owner *it = owners; it; it = it->next)
-        flush_for(release, fh, it->id);
+    for (const struct owner *owner = owners; owner; owner = owner->next)
+        flush_for(release, fh, owner->id);
     owners_end(owners);
     table_unlock();
 }

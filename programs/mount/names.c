@@ -38,9 +38,9 @@ void table_unlock(void)
 
 struct timespec now(void)
 {
-    struct timespec it;
-    clock_gettime(CLOCK_REALTIME, &it);
-    return it;
+    struct timespec at;
+    clock_gettime(CLOCK_REALTIME, &at);
+    return at;
 }
 
 bool is_folder(const struct node *node)
@@ -98,18 +98,18 @@ struct node *node_of(uint64_t number)
 {
     if (number == ROOT)
         return &table.root;
-    struct node *it = *of_number(number);
-    while (it && it->number != number)
-        it = it->next;
-    return it;
+    struct node *node = *of_number(number);
+    while (node && node->number != number)
+        node = node->next;
+    return node;
 }
 
 struct node *node_named(const char *name)
 {
-    struct node *it = *of_name(name);
-    while (it && strcmp(it->name, name) != 0)
-        it = it->next_name;
-    return it;
+    struct node *node = *of_name(name);
+    while (node && strcmp(node->name, name) != 0)
+        node = node->next_name;
+    return node;
 }
 
 // The folder's own times change with its names.
@@ -120,18 +120,18 @@ static void root_changed(void)
 
 static struct node *add(uint64_t number, uint32_t mode, uint32_t uid, uint32_t gid)
 {
-    struct node *it = calloc(1, sizeof *it);
-    if (!it)
+    struct node *node = calloc(1, sizeof *node);
+    if (!node)
         return NULL;
-    it->number = number;
-    it->mode = mode;
-    it->uid = uid;
-    it->gid = gid;
-    set_times(it);
-    it->next = *of_number(number);
-    *of_number(number) = it;
+    node->number = number;
+    node->mode = mode;
+    node->uid = uid;
+    node->gid = gid;
+    set_times(node);
+    node->next = *of_number(number);
+    *of_number(number) = node;
     table.count++;
-    return it;
+    return node;
 }
 
 // ---- The list ----
@@ -164,17 +164,17 @@ static bool has_place(void)
     return true;
 }
 
-static void put_last(struct node *it)
+static void put_last(struct node *node)
 {
-    it->cookie = ++table.cookie;
-    table.list[table.used++] = (struct listed){.cookie = it->cookie, .node = it};
+    node->cookie = ++table.cookie;
+    table.list[table.used++] = (struct listed){.cookie = node->cookie, .node = node};
 }
 
 // Once half of the places have no node, these go.
-static void take_from_list(const struct node *it)
+static void take_from_list(const struct node *node)
 {
     size_t kept = 0;
-    table.list[place_after(it->cookie - 1)].node = NULL;
+    table.list[place_after(node->cookie - 1)].node = NULL;
     if (++table.gone <= table.used / 2)
         return;
     for (size_t i = 0; i < table.used; i++)
@@ -216,32 +216,32 @@ static void lose_name(struct node *node)
 
 struct node *node_made(uint64_t number, const char *name, uint32_t mode, uint32_t uid, uint32_t gid)
 {
-    struct node *it = node_of(number);
-    if (number == ROOT || !*name || (it && *it->name))
-        return it;
+    struct node *node = node_of(number);
+    if (number == ROOT || !*name || (node && *node->name))
+        return node;
     bool takes_group = (table.root.mode & S_ISGID) != 0;
     if (!has_place())
         return NULL;
-    if (!it)
-        it = add(number, mode, uid, takes_group ? table.root.gid : gid);
-    if (!it)
+    if (!node)
+        node = add(number, mode, uid, takes_group ? table.root.gid : gid);
+    if (!node)
         return NULL;
-    it->mode = mode;
-    take_name(it, name);
-    put_last(it);
-    table.folders += is_folder(it);
+    node->mode = mode;
+    take_name(node, name);
+    put_last(node);
+    table.folders += is_folder(node);
     root_changed();
-    return it;
+    return node;
 }
 
 struct node *node_looked_up(const struct fuse_attr *attr)
 {
-    struct node *it = node_of(attr->ino);
-    if (!it)
-        it = add(attr->ino, attr->mode, attr->uid, attr->gid);
-    if (it)
-        it->lookups++;
-    return it;
+    struct node *node = node_of(attr->ino);
+    if (!node)
+        node = add(attr->ino, attr->mode, attr->uid, attr->gid);
+    if (node)
+        node->lookups++;
+    return node;
 }
 
 static void drop(struct node *node)
@@ -256,26 +256,26 @@ static void drop(struct node *node)
 
 void node_unlinked(const char *name)
 {
-    struct node *it = node_named(name);
-    if (!it)
+    struct node *node = node_named(name);
+    if (!node)
         return;
-    take_from_list(it);
-    lose_name(it);
-    table.folders -= is_folder(it);
-    it->ctime = now();
+    take_from_list(node);
+    lose_name(node);
+    table.folders -= is_folder(node);
+    node->ctime = now();
     root_changed();
-    if (!it->lookups)
-        drop(it);
+    if (!node->lookups)
+        drop(node);
 }
 
 void node_forgotten(uint64_t number, uint64_t lookups)
 {
-    struct node *it = node_of(number);
-    if (!it || number == ROOT)
+    struct node *node = node_of(number);
+    if (!node || number == ROOT)
         return;
-    it->lookups -= lookups < it->lookups ? lookups : it->lookups;
-    if (!it->lookups && !*it->name)
-        drop(it);
+    node->lookups -= lookups < node->lookups ? lookups : node->lookups;
+    if (!node->lookups && !*node->name)
+        drop(node);
 }
 
 unsigned nodes_count(void)
@@ -313,9 +313,9 @@ void describe(struct fuse_attr *attr, const struct node *node)
 void names_end(void)
 {
     for (size_t i = 0; i < table.chains; i++)
-        for (struct node *it = table.numbers[i], *next; it; it = next) {
-            next = it->next;
-            free(it);
+        for (struct node *node = table.numbers[i], *next; node; node = next) {
+            next = node->next;
+            free(node);
         }
     free(table.numbers);
     free(table.names);

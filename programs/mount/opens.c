@@ -63,20 +63,20 @@ static struct locker **place_of_locker(uint64_t node, uint64_t owner)
 
 void open_made(uint64_t fh, uint64_t node, uint32_t pid)
 {
-    struct open_file *it = malloc(sizeof *it);
-    if (!it)
+    struct open_file *file = malloc(sizeof *file);
+    if (!file)
         return;
-    *it = (struct open_file){.next = opens[fh % chains], .fh = fh, .node = node, .pid = pid};
-    opens[fh % chains] = it;
+    *file = (struct open_file){.next = opens[fh % chains], .fh = fh, .node = node, .pid = pid};
+    opens[fh % chains] = file;
     opened++;
 }
 
 static bool has_owner(const struct open_file *file, uint64_t owner)
 {
-    const struct owner *it = file->owners;
-    while (it && it->id != owner)
-        it = it->next;
-    return it != NULL;
+    const struct owner *found = file->owners;
+    while (found && found->id != owner)
+        found = found->next;
+    return found != NULL;
 }
 
 // False where there is no memory.
@@ -95,11 +95,11 @@ static bool locker_gains(uint64_t node, uint64_t owner)
 
 static void locker_loses(uint64_t node, uint64_t owner)
 {
-    struct locker **at = place_of_locker(node, owner), *it = *at;
-    if (--it->files)
+    struct locker **at = place_of_locker(node, owner), *locker = *at;
+    if (--locker->files)
         return;
-    *at = it->next;
-    free(it);
+    *at = locker->next;
+    free(locker);
 }
 
 void open_owner_asks(uint64_t fh, uint64_t owner)
@@ -107,13 +107,13 @@ void open_owner_asks(uint64_t fh, uint64_t owner)
     struct open_file *file = open_of(fh);
     if (!file || has_owner(file, owner))
         return;
-    struct owner *it = malloc(sizeof *it);
-    if (!it || !locker_gains(file->node, owner)) {
-        free(it);
+    struct owner *added = malloc(sizeof *added);
+    if (!added || !locker_gains(file->node, owner)) {
+        free(added);
         return;
     }
-    *it = (struct owner){.next = file->owners, .id = owner};
-    file->owners = it;
+    *added = (struct owner){.next = file->owners, .id = owner};
+    file->owners = added;
 }
 
 static void drop_owner(struct owner **at)
@@ -175,12 +175,12 @@ void openers(struct holders *holders)
 {
     *holders = (struct holders){0};
     for (size_t i = 0; i < chains; i++)
-        for (const struct open_file *it = opens[i]; it; it = it->next) {
+        for (const struct open_file *file = opens[i]; file; file = file->next) {
             int at = 0;
-            while (at < holders->count && at < MOST_HOLDERS && holders->pids[at] != (pid_t)it->pid)
+            while (at < holders->count && at < MOST_HOLDERS && holders->pids[at] != (pid_t)file->pid)
                 at++;
             if (at == holders->count && at < MOST_HOLDERS)
-                holders->pids[holders->count++] = (pid_t)it->pid;
+                holders->pids[holders->count++] = (pid_t)file->pid;
         }
 }
 
@@ -193,9 +193,9 @@ void opens_end(void)
     free(lockers);
     chains = 0;
     for (size_t i = 0; i < BUCKETS; i++) {
-        for (struct asked *it = asked[i], *next; it; it = next) {
-            next = it->next;
-            free(it);
+        for (struct asked *message = asked[i], *next; message; message = next) {
+            next = message->next;
+            free(message);
         }
         asked[i] = NULL;
     }
@@ -212,16 +212,16 @@ static struct asked **bucket_of(uint64_t unique)
 struct asked *asked_new(uint64_t unique, uint32_t opcode, const char *name)
 {
     size_t length = strlen(name) + 1;
-    struct asked *it = calloc(1, sizeof *it + length);
-    if (!it)
+    struct asked *message = calloc(1, sizeof *message + length);
+    if (!message)
         return NULL;
-    it->unique = unique;
-    it->opcode = opcode;
-    memcpy(it->name, name, length);
-    it->next = *bucket_of(unique);
-    *bucket_of(unique) = it;
+    message->unique = unique;
+    message->opcode = opcode;
+    memcpy(message->name, name, length);
+    message->next = *bucket_of(unique);
+    *bucket_of(unique) = message;
     atomic_fetch_add(&asked_count, 1);
-    return it;
+    return message;
 }
 
 struct asked *asked_taken(uint64_t unique)
@@ -229,12 +229,12 @@ struct asked *asked_taken(uint64_t unique)
     struct asked **at = bucket_of(unique);
     while (*at && (*at)->unique != unique)
         at = &(*at)->next;
-    struct asked *it = *at;
-    if (it) {
-        *at = it->next;
+    struct asked *message = *at;
+    if (message) {
+        *at = message->next;
         atomic_fetch_sub(&asked_count, 1);
     }
-    return it;
+    return message;
 }
 
 bool asked_any(void)

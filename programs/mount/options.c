@@ -51,12 +51,12 @@ static long number(const char *word, const char *name, int base, long least, lon
 {
     char *end = NULL;
     errno = 0;
-    long it = *word >= '0' && *word <= '9' ? strtol(word, &end, base) : -1;
-    if (errno || !end || *end || it < least || it > most) {
+    long found = *word >= '0' && *word <= '9' ? strtol(word, &end, base) : -1;
+    if (errno || !end || *end || found < least || found > most) {
         errno = 0;
         fail("--%s: a number from %ld to %ld, and not `%s`", name, least, most, word);
     }
-    return it;
+    return found;
 }
 
 static void take_number(struct options *options, const char *name, const char *word)

@@ -185,8 +185,8 @@ static void refuse_nonempty(const struct place *place)
     if (!list)
         fail("cannot read %s", place->path);
     rewinddir(list);
-    for (struct dirent *it; (it = readdir(list));)
-        if (strcmp(it->d_name, ".") != 0 && strcmp(it->d_name, "..") != 0) {
+    for (struct dirent *entry; (entry = readdir(list));)
+        if (strcmp(entry->d_name, ".") != 0 && strcmp(entry->d_name, "..") != 0) {
             errno = 0;
             fail("%s isn't empty, and a mount hides what is in it; --nonempty allows that", place->path);
         }

@@ -128,8 +128,8 @@ bool record_has_later(dev_t device)
     struct told ours = told_by(record);
     snprintf(folder, sizeof folder, "%s", record_path);
     DIR *list = ours.device != device ? NULL : opendir(dirname(folder));
-    for (struct dirent *it; list && !found && (it = readdir(list));) {
-        int other = openat(dirfd(list), it->d_name, O_RDONLY | O_NONBLOCK | O_CLOEXEC | O_NOFOLLOW);
+    for (struct dirent *entry; list && !found && (entry = readdir(list));) {
+        int other = openat(dirfd(list), entry->d_name, O_RDONLY | O_NONBLOCK | O_CLOEXEC | O_NOFOLLOW);
         struct told told = told_by(other);
         found = told.device == device && told.when > ours.when;
         if (other >= 0)

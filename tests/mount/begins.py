@@ -387,17 +387,17 @@ def try_a_user_mounts_by_fusermount3():
     home = tempfile.mkdtemp(dir=WORK)
     os.chmod(WORK, 0o711)
     os.chown(home, NOBODY, NOBODY)
-    folder = f"{home}/locks"
+    carrier, server = copy_for_all(PROGRAM, f"{home}/lockd_mount"), copy_for_all(os.environ["LOCKD"], f"{home}/lockd")
     script = f"""
         cd {home}; mkdir locks run; XDG_RUNTIME_DIR={home}/run TMPDIR={home}; export XDG_RUNTIME_DIR TMPDIR
-        begin() {{ rm -f said; {PROGRAM} "$@" locks > said 2>&1 & until grep -qs "mounted at" said; do sleep 0.01; kill -0 $! || exit 9; done; }}
-        begin; flock -n locks/a echo in; ls locks; chmod 600 locks/a; stat -c %a,%U locks/a; {PROGRAM} locks 2>&1 | grep -c already
+        begin() {{ rm -f said; {carrier} "$@" locks > said 2>&1 & until grep -qs "mounted at" said; do sleep 0.01; kill -0 $! || exit 9; done; }}
+        begin; flock -n locks/a echo in; ls locks; chmod 600 locks/a; stat -c %a,%U locks/a; {carrier} locks 2>&1 | grep -c already
         fusermount3 -u locks; wait $!; echo $?
         begin; kill $!; wait $!; echo $?
-        begin; exec 9> locks/a; flock 9; kill $!; wait $!; echo $?; {PROGRAM} locks 2>&1 | grep -c earlier; exec 9>&-
+        begin; exec 9> locks/a; flock 9; kill $!; wait $!; echo $?; {carrier} locks 2>&1 | grep -c earlier; exec 9>&-
         begin; exec 9> locks/a; flock 9; kill -9 $!; wait $! 2> /dev/null; (: > locks/a) 2> /dev/null || echo dead; exec 9>&-
         begin; kill $!; wait $!; echo $?; tail -n 1 said; ls locks"""
-    ran = subprocess.run(["setpriv", f"--reuid={NOBODY}", f"--regid={NOBODY}", "--clear-groups", "sh", "-c", script], text=True,
-                         stdout=subprocess.PIPE, stderr=subprocess.STDOUT, timeout=PATIENCE, stdin=subprocess.DEVNULL)
+    ran = subprocess.run(["setpriv", f"--reuid={NOBODY}", f"--regid={NOBODY}", "--clear-groups", "sh", "-c", script], text=True, cwd=home,
+                         stdout=subprocess.PIPE, stderr=subprocess.STDOUT, timeout=5 * PATIENCE, stdin=subprocess.DEVNULL, env={**os.environ, "LOCKD": server})
     subprocess.run(["umount", "-l", "/dev/fuse"], check=True, timeout=PATIENCE)
     same(ran.stdout.split(), "in a 600,nobody 1 0 0 4 1 dead 0 legal".split())

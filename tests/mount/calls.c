@@ -24,11 +24,11 @@ static void well(int result, const char *what)
 
 static void list(const char *folder)
 {
-    DIR *it = opendir(folder);
-    well(it ? 0 : -1, "opendir");
-    while (readdir(it))
+    DIR *entries = opendir(folder);
+    well(entries ? 0 : -1, "opendir");
+    while (readdir(entries))
         ;
-    well(closedir(it), "closedir");
+    well(closedir(entries), "closedir");
 }
 
 static void once(const char *folder, const char *file, const char *made)

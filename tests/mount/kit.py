@@ -45,13 +45,13 @@ class Mount:
         return next(pid for pid, words in children_of(self.running.pid) if b"serve" in words)
 
     def end(self, how=None):
-        """Unmounts, or ends otherwise. Gives the status and the words of the last line."""
+        """Unmounts, or ends otherwise. Gives the status and the words of the last line. A long trace is judged meanwhile."""
         if how:
             how()
         else:
             has_closed_files(self.folder)
             unmount(self.folder)
-        status = self.running.wait(timeout=PATIENCE)
+        status = self.running.wait(timeout=10 * PATIENCE)
         return status, self.output().splitlines()[-1]
 
     def term(self):
@@ -310,6 +310,13 @@ def state_of(folder):
         return "X"
 
 
+def copy_for_all(program, path):
+    """A copy that each user may run. What was built may stand below a folder that only its owner may enter."""
+    shutil.copyfile(program, path)
+    os.chmod(path, 0o755)
+    return path
+
+
 def as_user(script, *words):
     """Runs this module as nobody, who mounts by fusermount3. Gives its status, or nothing where that can't be."""
     missing = [it for it in ("/usr/bin/python3", "fusermount3", "setpriv") if not shutil.which(it)]
@@ -320,10 +327,10 @@ def as_user(script, *words):
     top, device = tempfile.mkdtemp(dir=WORK), tempfile.mkdtemp(dir=WORK) + "/fuse"
     for folder in "tests", "programs", "dist":
         shutil.copytree(f"{TOP}/{folder}", f"{top}/{folder}", ignore=shutil.ignore_patterns("out", "cases", "__pycache__"))
-    os.mkdir(f"{top}/programs/mount/out")
-    shutil.copy(PROGRAM, f"{top}/programs/mount/out/lockd_mount")
-    shutil.copy(os.environ["LOCKD"], f"{top}/lockd")
-    os.chmod(f"{top}/lockd", 0o755)
+    subprocess.run(["chmod", "-R", "a+rX", top], check=True, timeout=PATIENCE)
+    os.mkdir(f"{top}/programs/mount/out", 0o755)
+    copy_for_all(PROGRAM, f"{top}/programs/mount/out/lockd_mount")
+    copy_for_all(os.environ["LOCKD"], f"{top}/lockd")
     for name in "run", "tmp":
         os.mkdir(f"{top}/{name}")
         os.chown(f"{top}/{name}", NOBODY, NOBODY)

@@ -6,7 +6,7 @@
 # compiler, Python 3.9, `unshare` and `flock`. It takes a minute and a half on two processors, and is
 # killed after 7200 seconds.
 #
-#     tests/mount/mount.sh [NAME ..]      (only what has one of these words in its name)
+#     tests/run mount/mount [NAME ..]      (only what has one of these words in its name)
 #
 # LOCKD names another program to take as `lockd`. Else it is built where it isn't. LOCKD_MOUNT names
 # another one to take as lockd_mount; else programs/mount/build builds it, and a second one, with sanitizers,

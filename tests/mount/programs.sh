@@ -6,7 +6,7 @@
 # where what it wants itself is missing: root, /dev/fuse, a right to mount, a C compiler and Python
 # 3.9. It takes half a minute on two processors.
 #
-#     tests/mount/programs.sh [--table] [--user] [NAME ..]
+#     tests/run mount/programs [--table] [--user] [NAME ..]
 #
 # --table prints how each goes, for docs/MOUNT.md. With --user nobody mounts, by fusermount3, and runs the programs.
 #
@@ -14,7 +14,7 @@
 set -eu
 cd "$(dirname "$0")/../.."
 skip() {
-    echo "try_programs: not tried: $1" >&2
+    echo "mount/programs: not tried: $1" >&2
     exit 77
 }
 [ "$(id -u)" -eq 0 ] || skip 'it wants root'
@@ -32,5 +32,5 @@ if [ -z "${LOCKD_MOUNT:-}" ]; then
 fi
 status=0
 timeout -s KILL 900 $apart python3 -B -m tests.mount.programs "$@" || status=$?
-[ "$status" -ne 137 ] || echo 'try_programs: killed after 900 seconds'
+[ "$status" -ne 137 ] || echo 'mount/programs: killed after 900 seconds'
 exit "$status"

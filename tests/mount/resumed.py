@@ -21,7 +21,7 @@ def built(name):
 def starting_often():
     """A carrier that starts its server again as often as it ends, with the sanitizers if there are any."""
     checks = ["-g", "-fsanitize=address,undefined", "-fno-sanitize-recover=undefined"] if os.environ.get("LOCKD_MOUNT_CHECKED") else []
-    subprocess.run([f"{TOP}/mount/build", f"{WORK}/lockd_mount_often", "-DMOST_RESTARTS=100000", *checks], check=True, timeout=5 * PATIENCE)
+    subprocess.run([f"{TOP}/programs/mount/build", f"{WORK}/lockd_mount_often", "-DMOST_RESTARTS=100000", *checks], check=True, timeout=5 * PATIENCE)
     return f"{WORK}/lockd_mount_often"
 
 

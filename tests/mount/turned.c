@@ -177,11 +177,11 @@ static void list_while_names_go(void)
             node_unlinked(name);
         expect(!node_named(name) == (i % 3 != 0), "it isn't once it is unlinked");
     }
-    for (struct node *it = node_after(2); it; it = node_after(it->cookie), listed++)
-        expect(it->number == 2 + 3 * listed, "names are in the order of making");
+    for (struct node *node = node_after(2); node; node = node_after(node->cookie), listed++)
+        expect(node->number == 2 + 3 * listed, "names are in the order of making");
     expect(listed == (NAMES + 2) / 3 && nodes_count() == listed, "all that are left are listed");
-    for (struct node *it; (it = node_after(2));)
-        node_unlinked(it->name);
+    for (struct node *node; (node = node_after(2));)
+        node_unlinked(node->name);
     expect(!nodes_count(), "none is left");
 }
 

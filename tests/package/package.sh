@@ -13,7 +13,7 @@
 set -eu
 cd "$(dirname "$0")/../.."
 skip() {
-    echo "try_package: not tried: $1" >&2
+    echo "package/package: not tried: $1" >&2
     exit 77
 }
 [ "$(id -u)" -eq 0 ] || skip 'it needs root'
@@ -34,5 +34,5 @@ trap 'rm -rf "$work"' EXIT
 trap 'exit 1' HUP INT TERM
 status=0
 TRY_PACKAGE_WORK=$work timeout -s KILL 1800 $apart python3 -B -m tests.package.tries "$@" || status=$?
-[ "$status" -ne 137 ] || echo 'try_package: killed after 1800 seconds'
+[ "$status" -ne 137 ] || echo 'package/package: killed after 1800 seconds'
 exit "$status"

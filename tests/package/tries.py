@@ -123,7 +123,7 @@ def try_mounts_that_begin_in_one_second():
         with contextlib.ExitStack() as stack:
             begun = [stack.enter_context(started("mount", "-t", "fuse.lockd", "-o", "resume=/srv/traces/trace,times=/srv/traces/times", "none", it,
                                                  stderr=subprocess.STDOUT)) for it in folders]
-            same([(it.wait(timeout=60), it.stdout.read()) for it in begun], [(0, b"")] * 2)
+            same([(it.wait(timeout=PATIENCE), it.stdout.read()) for it in begun], [(0, b"")] * 2)
         for folder in folders:
             printed("flock", f"{folder}/job", "true")
             printed("umount", folder)

@@ -20,7 +20,7 @@ from concurrent.futures import ThreadPoolExecutor
 from tests import tries
 from tests.fuse import EAGAIN, SETLK
 from tests.resume import kit
-from tests.tries import CREATE, PATIENCE, Server, judged, run, setlk, wait_until
+from tests.tries import CREATE, PATIENCE, PROGRAM, Server, judged, run, setlk, wait_until
 from tests.resume.kit import (FEW, KILLED, LINES, READ, UNLOCK, WORKED, WRITE, Client, Gone, asks, completed, goes_on, is_stored, is_whole, locks, resuming,
                              text_of)
 
@@ -137,11 +137,19 @@ def try_files_that_are_none():
             cannot_trace(path)
 
 
+def another_user(folder):
+    """How the program is run as another user: as a copy in this folder, since that of the program may be closed to others."""
+    os.chmod(folder, 0o755)
+    program = shutil.copy(PROGRAM, folder)
+    os.chmod(program, 0o755)
+    return {"executable": program, "preexec_fn": lambda: os.setuid(NOBODY)}
+
+
 def try_files_that_are_not_ours():
     """One that can't be read, one that can't be written, and none in a folder where none can be made. They stay as they are."""
-    before = {"preexec_fn": lambda: os.setuid(NOBODY)} if os.getuid() == 0 else {}
-    with tempfile.TemporaryDirectory() as folder:
+    with tempfile.TemporaryDirectory() as folder, tempfile.TemporaryDirectory() as beside:
         os.chmod(folder, 0o755)
+        before = another_user(beside) if os.getuid() == 0 else {}
         path = f"{folder}/trace"
         for mode in 0o222, 0o444, 0o000:
             with open(path, "wb") as file:

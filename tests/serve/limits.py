@@ -79,6 +79,7 @@ def try_no_threads():
     with tempfile.TemporaryDirectory(prefix="try-lockd-") as folder:
         os.chmod(folder, 0o755)
         program = shutil.copy(PROGRAM, folder)
+        os.chmod(program, 0o755)
         for threads in 1, 2, 3, 4:
             assert starved(program, threads) == (b"", b"", "no memory\n", 2), threads
 

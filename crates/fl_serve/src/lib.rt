@@ -7,7 +7,7 @@
 //! - that refuses every order for memory;
 //! - that tells `Read` or `Write` early, `NoMemory` having read nothing, or `NoReader` with an empty history;
 //! - of which one worker does all, or a worker handles its orders in another order than it took them, or looks late.
-//! `fl_serve_tests`, `tests/serve/sessions.py` and `tests/serve/failing.py` refuse these; another order is refused by
+//! `fl_serve_tests`, `tests/serve/workers.py` and `tests/serve/failing.py` refuse these; another order is refused by
 //! `worker_loop`, and a late look by `fl_workers_tests`.
 #![tactic(auto)]
 

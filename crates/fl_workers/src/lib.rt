@@ -9,7 +9,7 @@
 //! - a `new` of room that is always refused;
 //! - a `SharedSender` that is broken at once, collects nothing, or closes as if it weren't whole, and a `receive_all`
 //!   that sends late or never what it collected.
-//! `fl_workers_tests`, `fl_serve_tests` and `tests/serve/sessions.py` refuse these; what the counter sends is seen by
+//! `fl_workers_tests`, `fl_serve_tests` and `tests/serve/workers.py` refuse these; what the counter sends is seen by
 //! `tests/serve/traces.py` alone.
 #![tactic(auto)]
 
