@@ -16,6 +16,7 @@
 #![tactic(auto)]
 
 mod asking;
+mod details;
 mod finding;
 mod hearer;
 mod judge;
@@ -27,6 +28,7 @@ mod replay;
 mod resuming;
 
 pub use asking::{asks_while_waiting, quiet};
+pub use details::{BadLine, Details, Difference};
 pub use finding::{AuditFault, Audited, Finding, Heard};
 pub use judge::Judge;
 pub use reading::{audit, hear_cut, hear_first};
