@@ -10,13 +10,13 @@ ghost use Rattle.lockd_serve.specs.Behind.{AreLinesOf, FileSays, ServesBehind, S
 ghost use Rattle.lockd_serve.specs.Ending.{Ending};
 ghost use Rattle.lockd_serve.specs.Inside.{DiffersBy, told_of_reading};
 
+use crate::behind::resume;
 use crate::ending::{end_resumed, end_unheard, end_unopened};
 use crate::serving::hang_up;
 use fl_core::Rules;
 use fl_desk::Verdict;
 use fl_history::Recent;
 use fl_judge::{AuditFault, Details, Heard, Judge, Resumed, hear_cut};
-use fl_resume::resume;
 use lockd_faults::{CommandFault, Noting, Status, end};
 use lockd_streams::{
     Observer, OldSocket, Patient, Retrying, Spinning, Telling, Untraced, WhenUnwritten, connection,

@@ -2,7 +2,7 @@
 use Rattle.std.specs.Prelude.{ℕ, List, Option, IsTrue}
 use Rattle.fl_desk.specs.Legal.{IsLegal}
 use Rattle.fl_history.specs.declared.history.Line.{Line}
-use Rattle.fl_resume.specs.declared.resuming.Ended.{Ended}
+use Rattle.lockd_serve.specs.declared.behind.Ended.{Ended}
 use Rattle.fl_session.specs.Served.{IsAheadBehind, IsServedBehind}
 use Rattle.fl_stream.specs.Streams.{HoldsText, IsBegun, Wrote}
 use Rattle.fl_trace.specs.Text.{text_of}

@@ -6,7 +6,7 @@ ghost use mathlib.Core.List.{IsPrefix};
 ghost use Rattle.fl_desk.specs.Kept.{IsKept};
 ghost use Rattle.fl_history.specs.declared.history.Line.{Line as Entry};
 ghost use Rattle.fl_judge.specs.Present.{told_lines};
-ghost use Rattle.fl_resume.specs.Resumed.{IsResumed};
+ghost use Rattle.lockd_serve.specs.Resumed.{IsResumed};
 ghost use Rattle.fl_stream.specs.Streams.{HoldsText, IsAs, IsBegun, Wrote};
 ghost use Rattle.fl_trace.specs.Text.{text_of};
 
