@@ -12,7 +12,7 @@ ghost use Rattle.fl_judge.specs.Quiet.{IsQuiet, HasNoCircles};
 use crate::details::Difference;
 use crate::laws::quiet_histories_have_no_circle;
 use crate::replay::Replay;
-use crate::resuming::{Missing, Resumed};
+use crate::resumed::{Missing, Resumed};
 use fl_core::{Core, Rules};
 use fl_desk::Verdict;
 use fl_history::{Line, Past};

@@ -31,19 +31,19 @@ mod ahead;
 mod behind;
 mod ending;
 mod options;
-mod resuming;
+mod resume_file;
 mod serve;
 mod serving;
 mod unused;
 
-pub use behind::{Ended, resume};
+pub use behind::{ResumedRun, resume};
 pub use ending::end_unopened;
 pub use fl_stream::WhenWriterFails;
 pub use lockd_streams::{
     Observer, Parting, Telling, Untraced, WhenUnwritten, end_without_file, is_at,
 };
 pub use options::{ServeOptions, TraceTo};
-pub use resuming::{resume_on, resumed_from};
+pub use resume_file::{resume_on, resumed_from};
 pub use serve::serve_on;
 pub use serving::serve_stream;
 pub use unused::is_unused;
