@@ -1,4 +1,5 @@
 pub mod Circles
+pub mod Differences
 pub mod Following
 pub mod Hearing
 pub mod Listening

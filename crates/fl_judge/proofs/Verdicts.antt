@@ -20,7 +20,7 @@ use Rattle.fl_judge.specs.Quiet.{IsQuiet}
 use Rattle.fl_waiting.specs.declared.rules.Rules.{Rules}
 
 -- what contracts see of a judge that heard these lines
-abbrev seen : Replay → List Line → Hearing
+abbrev pub seen : Replay → List Line → Hearing
 seen r lines = record { rules = r.core.rules; lines = lines }
 
 abbrev Begins : Hearing → Type 0
@@ -59,7 +59,7 @@ said rules lines n d = record {
 }
 
 -- replies are missing
-missing : (lines : List Line) (r : Replay) (due : Told) (n : ℕ) → n ≡ length lines + 1 → slice_get r.tolds.told r.told ≡ Some due → LeadsUpTo lines r
+pub missing : (lines : List Line) (r : Replay) (due : Told) (n : ℕ) → n ≡ length lines + 1 → slice_get r.tolds.told r.told ≡ Some due → LeadsUpTo lines r
     → DiffersAt r.core.rules lines n
 missing lines r due n at is up = record {
   illegal = λ legal.
@@ -101,12 +101,6 @@ first_wrong rules lines l n at before wrong =
 
 -- ---- in the words of the judge
 
-pub missing_some : (lines : List Line) (now : Hearing) (r : Replay) (o : Option Told) (n : ℕ) → seen r lines ≡ now → n ≡ length lines + 1
-    → o ≡ slice_get r.tolds.told r.told → is_some o ≡ true → LeadsUpTo lines r → DiffersAt now.rules now.lines n
-missing_some lines now r None n same at is some up = absurd (cc some)
-missing_some lines now r (Some due) n same at is some up =
-    subst (λ (h : Hearing). DiffersAt h.rules h.lines n) same (missing lines r due n at (sym is) up)
-
 pub legal_none : (lines : List Line) (now : Hearing) (r : Replay) (o : Option Told) → seen r lines ≡ now → o ≡ slice_get r.tolds.told r.told
     → is_some o ≡ false → LeadsUpTo lines r → IsLegal now.rules now.lines
 legal_none lines now r None same is none up = subst (λ (h : Hearing). IsLegal h.rules h.lines) same (all_told r lines (sym is) up).legal
@@ -137,7 +131,7 @@ kept_then lines now r None same b up =
 kept_then lines now r (Some n) same b d = absurd (differs r.core.rules lines n d (subst Begins (sym same) b))
 
 -- the lines didn't differ so far
-up_to : (lines : List Line) (r : Replay) (o : Option ℕ) → is_some o ≡ false → Stands lines r o → LeadsUpTo lines r
+pub up_to : (lines : List Line) (r : Replay) (o : Option ℕ) → is_some o ≡ false → Stands lines r o → LeadsUpTo lines r
 up_to lines r None e up = up
 up_to lines r (Some n) e d = absurd (cc e)
 

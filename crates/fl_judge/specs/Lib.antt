@@ -1,4 +1,5 @@
 pub mod Audit
+pub mod Details
 pub mod First
 pub mod Hearing
 pub mod Inside

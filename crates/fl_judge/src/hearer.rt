@@ -1,18 +1,21 @@
-//! A judge that hears lines, and the last of them, if these are kept.
+//! A judge that hears lines, the last of them, if these are kept, and the line behind them that is bad.
 
 ghost use Rattle.std.specs.Prelude.{◌≡◌, ◌<◌, ◌^◌, ◌++◌, ◌∷◌, [], length, IfSome, is_some};
+ghost use Rattle.fl_judge.specs.Details.{AreDetailsOf};
 ghost use Rattle.fl_judge.specs.Inside.Keeping.{keeping};
 
+use crate::details::{BadLine, Details};
 use crate::judge::Judge;
 use fl_history::{Line, Recent};
 use std::marker::Model;
 
-/// A judge, and the last lines that it heard, if these are kept. Contracts see the judge's rules and lines, and whether
+/// A judge, the last lines that it heard, if these are kept, and the line behind them, if it is bad. Contracts see the judge's rules and lines, and whether
 /// the last are kept.
 #[derive(Drop)]
 pub(crate) struct Hearer {
     judge: Judge,
     recent: Option<Recent>,
+    bad: BadLine,
 }
 
 impl Model for Hearer {
@@ -32,7 +35,11 @@ impl Hearer {
         requires { IfSome recent (λ lines. lines ≡ judge.lines) }
         ensures { result ≡ keeping judge (is_some recent) }
     {
-        Hearer { judge, recent }
+        Hearer {
+            judge,
+            recent,
+            bad: BadLine::new(),
+        }
     }
 
     /// Hears one line more.
@@ -43,6 +50,25 @@ impl Hearer {
         self.judge.hear(line);
         if let Some(recent) = &mut self.recent {
             recent.push(line);
+        }
+    }
+
+    /// The first line of this text is bad.
+    pub(crate) fn meet_bad(&mut self, text: &[u8])
+        ensures { self.new ≡ self.old }
+    {
+        self.bad = BadLine::first_of(text);
+    }
+
+    /// What is told of the lines that it heard, and the bad line.
+    pub(crate) fn details(&self) -> Details
+        ensures { AreDetailsOf self.now.rules self.now.lines result }
+    {
+        Details {
+            lines: self.judge.heard(),
+            orders: self.judge.orders(),
+            difference: self.judge.difference(),
+            bad: self.bad,
         }
     }
 
@@ -60,7 +86,7 @@ impl Hearer {
         ensures recent { IfSome result.1 (λ lines. lines ≡ self.lines) }
         ensures keeps { is_some result.1 ≡ self.keeps }
     {
-        let Hearer { judge, recent } = self;
+        let Hearer { judge, recent, .. } = self;
         (judge, recent)
     }
 }

@@ -1,15 +1,18 @@
 //! The judge: what it says of the lines that it heard.
 
-ghost use Rattle.std.specs.Prelude.{◌≡◌, ◌↔◌, ◌<◌, ◌^◌, ◌++◌, ◌∷◌, [], true, length, IfOk, IfSome, IsSome};
+ghost use Rattle.std.specs.Prelude.{◌≡◌, ◌↔◌, ◌<◌, ◌≤◌, ◌^◌, ◌++◌, ◌∷◌, [], true, length, IfOk, IfSome, IsSome};
+ghost use Rattle.fl_desk.specs.Legal.{orders_asked};
 ghost use Rattle.fl_desk.specs.Verdicts.{IsBeginning, IsVerdict};
+ghost use Rattle.fl_judge.specs.Details.{IsDifferenceOf};
 ghost use Rattle.fl_judge.specs.Hearing.{unheard};
 ghost use Rattle.fl_desk.specs.Kept.{IsKept};
 ghost use Rattle.fl_judge.specs.Present.{IsPresent, told_lines};
 ghost use Rattle.fl_judge.specs.Quiet.{IsQuiet, HasNoCircles};
 
+use crate::details::Difference;
 use crate::laws::quiet_histories_have_no_circle;
 use crate::replay::Replay;
-use crate::resuming::{Missing, Resumed};
+use crate::resumed::{Missing, Resumed};
 use fl_core::{Core, Rules};
 use fl_desk::Verdict;
 use fl_history::{Line, Past};
@@ -24,7 +27,11 @@ use std::marker::Model;
 pub struct Judge {
     replay: Replay,
     heard: usize,
+    // How many of the lines are orders.
+    orders: usize,
+    // The number of the first line that breaks the rules, and the line.
     differs: Option<usize>,
+    found: Option<Line>,
     past: Past<Line>,
 }
 
@@ -33,11 +40,12 @@ impl Model for Judge {
 
     ghost Value = { Hearing };
 
-    ghost use Rattle.fl_judge.specs.Inside.Heard.{IsHeard};
+    ghost use Rattle.fl_judge.specs.Inside.Heard.{IsHeard, IsNoted};
 
     ghost view = { λ j. record { rules = j.replay.core.rules; lines = j.past.items } };
 
-    ghost invariant = { λ j. IsHeard j.past.items j.heard j.replay j.differs };
+    ghost invariant = { λ j. IsHeard j.past.items j.heard j.replay j.differs
+        × IsNoted j.past.items j.orders j.replay j.differs j.found };
 }
 
 impl Judge {
@@ -48,7 +56,9 @@ impl Judge {
         Ok(Judge {
             replay: Replay::new(alloc, rules)?,
             heard: 0,
+            orders: 0,
             differs: None,
+            found: None,
             past: Past::new(),
         })
     }
@@ -60,8 +70,10 @@ impl Judge {
     {
         self.past = self.past.and(line);
         self.heard += 1;
+        self.orders += orders_in(line);
         if self.differs.is_none() && !self.replay.take(line) {
             self.differs = Some(self.heard);
+            self.found = Some(*line);
         }
     }
 
@@ -72,16 +84,37 @@ impl Judge {
         self.heard
     }
 
+    /// How many of the lines that it heard are orders.
+    pub fn orders(&self) -> usize
+        ensures { result ≡ orders_asked self.now.lines }
+    {
+        self.orders
+    }
+
     /// What is to be said of all lines that it heard, as `check` says it of a history of them under its rules.
     pub fn verdict(&self) -> Verdict
         ensures { IsVerdict self.now.rules self.now.lines result }
     {
-        if let Some(n) = self.differs {
-            Verdict::Differs(n)
-        } else if self.replay.due().is_some() {
-            Verdict::Differs(self.heard + 1)
+        match self.difference() {
+            Some(difference) => Verdict::Differs(difference.number),
+            None => Verdict::Legal,
+        }
+    }
+
+    /// Where the lines that it heard break its rules, what it heard there, and what these want; none if they are a legal
+    /// history.
+    pub fn difference(&self) -> Option<Difference>
+        ensures { IsDifferenceOf self.now.rules self.now.lines result }
+    {
+        let due = self.replay.due();
+        if let Some(number) = self.differs {
+            let found = self.found;
+            Some(Difference { number, found, due })
+        } else if due.is_some() {
+            let (number, found) = (self.heard + 1, None);
+            Some(Difference { number, found, due })
         } else {
-            Verdict::Legal
+            None
         }
     }
 
@@ -144,5 +177,16 @@ impl Judge {
             ..
         } = self;
         differs.is_none() && replay.quiet
+    }
+}
+
+// How many orders a line is.
+fn orders_in(line: &Line) -> usize
+    ensures is { result ≡ orders_asked (line.now ∷ []) }
+    ensures few { result ≤ 1 }
+{
+    match line {
+        Line::Asked { .. } => 1,
+        Line::Told(_) => 0,
     }
 }

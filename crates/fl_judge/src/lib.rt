@@ -16,6 +16,7 @@
 #![tactic(auto)]
 
 mod asking;
+mod details;
 mod finding;
 mod hearer;
 mod judge;
@@ -24,10 +25,11 @@ mod lines;
 mod listener;
 mod reading;
 mod replay;
-mod resuming;
+mod resumed;
 
 pub use asking::{asks_while_waiting, quiet};
+pub use details::{BadLine, Details, Difference};
 pub use finding::{AuditFault, Audited, Finding, Heard};
 pub use judge::Judge;
 pub use reading::{audit, hear_cut, hear_first};
-pub use resuming::{Missing, Resumed};
+pub use resumed::{Missing, Resumed};

@@ -51,6 +51,7 @@ pub(crate) fn hear_lines(
             return Err(Stopped::Enough);
         }
         let Some((line, after)) = first_line(rest) else {
+            judge.meet_bad(rest);
             return Err(Stopped::BadLine(judge.heard() + 1));
         };
         judge.hear(&line);

@@ -3,10 +3,12 @@
 ghost use Rattle.std.specs.Prelude.{◌≡◌, ◌≢◌, ◌↔◌, ◌+◌, ◌<◌, ◌≤◌, ◌^◌, ℕ, [], List, Option, length, take, drop, true, false, Err};
 ghost use Rattle.std.specs.Prelude.{IfOk, IfErr, OnErr, IfSome, IsNone, is_some};
 ghost use Rattle.std.specs.Io.KnownBytes.{Consumes, IsAtEnd, Keeps};
+ghost use Rattle.fl_judge.specs.Details.{AreDetailsOf};
 ghost use Rattle.fl_judge.specs.Inside.Hearing.{IsRoomy, Listens, HearsOn, HasRead, AreJudged, IsBad};
 ghost use Rattle.fl_judge.specs.Hearing.{unheard};
 ghost use Rattle.fl_judge.specs.Inside.Keeping.{keeping};
 
+use crate::details::Details;
 use crate::finding::AuditFault;
 use crate::hearer::Hearer;
 use crate::judge::Judge;
@@ -128,8 +130,8 @@ impl Listener {
     }
 
     /// Nothing more comes: the judge, unless a line was bad, and how many bytes its lines have, if it heard all. With
-    /// `cut` bytes behind the last newline are none.
-    pub(crate) fn end(self, cut: bool) -> Result<Listened, AuditFault>
+    /// `cut` bytes behind the last newline are none. What is told of the lines goes to `details`.
+    pub(crate) fn end(mut self, cut: bool, details: &mut Details) -> Result<Listened, AuditFault>
         requires room { IsRoomy self }
         requires few { length self.judge.lines < 2 ^ 63 }
         ensures rules { IfOk result (λ heard. heard.judge.rules ≡ self.judge.rules) }
@@ -139,13 +141,26 @@ impl Listener {
             AreJudged self.most cut text heard.judge.lines heard.bytes) }
         ensures bad { (n : ℕ) → result ≡ Err (AuditFault.BadLine n) → (text : List ℕ) → Listens text self →
             IsBad self.most cut text n }
+        ensures details { IfOk result (λ heard. AreDetailsOf heard.judge.rules heard.judge.lines details.new) }
     {
+        self.meet_rest();
+        *details = self.judge.details();
         match self.bad_line(cut) {
             Some(n) => Err(AuditFault::BadLine(n)),
             None => Ok(Listened {
                 judge: self.judge,
                 bytes: self.bytes,
             }),
+        }
+    }
+
+    // What stands behind the last newline is bad, if nothing before it is, and it isn't dropped.
+    fn meet_rest(&mut self)
+        requires room { IsRoomy self.old }
+        ensures { self.new ≡ self.old }
+    {
+        if self.stopped.is_none() {
+            self.judge.meet_bad(&self.room[..self.kept]);
         }
     }
 

@@ -3,9 +3,11 @@
 ghost use Rattle.std.specs.Prelude.{◌≡◌, ◌<◌, ◌^◌, ℕ, true, [], length, IfOk, IfSome, Err, is_some};
 ghost use Rattle.fl_trace.specs.Text.{BreaksAt, LineFits};
 ghost use Rattle.fl_judge.specs.Audit.{judged_part, whole_lines, IsAudited};
+ghost use Rattle.fl_judge.specs.Details.{AreDetailsOf, AreDetailsIn};
 ghost use Rattle.fl_judge.specs.First.{AreFirstLines, AreWholeLines, IsSoOfAll, IsWithin};
 ghost use Rattle.fl_judge.specs.Inside.Hearing.{AreJudged, IsBad};
 
+use crate::details::Details;
 use crate::finding::{AuditFault, Audited, Heard, finding_of};
 use crate::judge::Judge;
 use crate::listener::{Listened, Listener};
@@ -22,18 +24,22 @@ const MOST_READS: u64 = 140_737_488_355_327;
 /// missing at the end. It takes memory for one directory, one list of replies and 64 KiB, however long the trace is.
 ///
 /// A bad line is reported once all of the trace is read, and before any difference. After 2^47 - 1 reads the fault is
-/// that reading failed. A read that was interrupted is tried again.
+/// that reading failed. A read that was interrupted is tried again. What is told of the lines before the first bad one
+/// goes to `details`, once all is read.
 pub fn audit<R: Read>(
     alloc: Global,
     rules: Rules,
     cut: bool,
     input: &mut R,
+    details: &mut Details,
 ) -> Result<Audited, AuditFault>
     ensures audited { IfOk result (IsAudited rules cut (R.remaining input.old)) }
     ensures bad { (n : ℕ) → result ≡ Err (AuditFault.BadLine n) →
         IfSome (R.remaining input.old) (λ bytes. BreaksAt LineFits (judged_part cut bytes) n) }
+    ensures details { IfOk result (λ _.
+        IsSoOfAll (R.remaining input.old) (λ text. AreDetailsIn rules (judged_part cut text) details.new)) }
 {
-    match hear_all(alloc, rules, None, cut, None, input) {
+    match hear_all(alloc, rules, None, cut, None, input, details) {
         Ok(heard) => {
             let (judge, _) = heard.judge.into_parts();
             Ok(Audited {
@@ -48,12 +54,14 @@ pub fn audit<R: Read>(
 /// Reads a trace to its end, and gives a judge that heard its first lines: at most so many, or all. What follows the
 /// last newline, and all lines behind those, are read and dropped. It takes memory as `audit` does.
 ///
-/// A bad line among those is reported once all of the trace is read. Reading fails as that of `audit` does.
+/// A bad line among those is reported once all of the trace is read. Reading fails as that of `audit` does, and
+/// `details` gets what it gets there.
 pub fn hear_first<R: Read>(
     alloc: Global,
     rules: Rules,
     most: Option<usize>,
     input: &mut R,
+    details: &mut Details,
 ) -> Result<Judge, AuditFault>
     ensures rules { IfOk result (λ judge. judge.rules ≡ rules) }
     ensures heard { IfOk result (λ judge.
@@ -61,8 +69,9 @@ pub fn hear_first<R: Read>(
     ensures few { IfOk result (λ judge. length judge.lines < 2 ^ 63) }
     ensures bad { (n : ℕ) → result ≡ Err (AuditFault.BadLine n) → IsSoOfAll (R.remaining input.old) (λ text.
         BreaksAt LineFits (whole_lines text) n × IsWithin most n) }
+    ensures details { IfOk result (λ judge. AreDetailsOf judge.rules judge.lines details.new) }
 {
-    match hear_all(alloc, rules, most, true, None, input) {
+    match hear_all(alloc, rules, most, true, None, input, details) {
         Ok(heard) => {
             let (judge, _) = heard.judge.into_parts();
             Ok(judge)
@@ -75,8 +84,14 @@ pub fn hear_first<R: Read>(
 /// have, and the last of them. What follows the last newline is read and dropped. It takes memory as `audit` does, and
 /// that of the last lines.
 ///
-/// A bad line is reported once all of the trace is read. Reading fails as that of `audit` does.
-pub fn hear_cut<R: Read>(alloc: Global, rules: Rules, input: &mut R) -> Result<Heard, AuditFault>
+/// A bad line is reported once all of the trace is read. Reading fails as that of `audit` does, and `details` gets what
+/// it gets there.
+pub fn hear_cut<R: Read>(
+    alloc: Global,
+    rules: Rules,
+    input: &mut R,
+    details: &mut Details,
+) -> Result<Heard, AuditFault>
     ensures rules { IfOk result (λ heard. heard.judge.rules ≡ rules) }
     ensures heard { IfOk result (λ heard.
         IsSoOfAll (R.remaining input.old) (λ text. AreWholeLines text heard.judge.lines heard.bytes)) }
@@ -84,9 +99,10 @@ pub fn hear_cut<R: Read>(alloc: Global, rules: Rules, input: &mut R) -> Result<H
     ensures recent { IfOk result (λ heard. heard.recent ≡ heard.judge.lines) }
     ensures bad { (n : ℕ) → result ≡ Err (AuditFault.BadLine n) → IsSoOfAll (R.remaining input.old) (λ text.
         BreaksAt LineFits (whole_lines text) n) }
+    ensures details { IfOk result (λ heard. AreDetailsOf heard.judge.rules heard.judge.lines details.new) }
 {
     let recent = Recent::new(alloc)?;
-    match hear_all(alloc, rules, None, true, Some(recent), input) {
+    match hear_all(alloc, rules, None, true, Some(recent), input, details) {
         Ok(heard) => Ok(all_heard(heard)),
         Err(fault) => Err(fault),
     }
@@ -112,7 +128,7 @@ fn all_heard(heard: Listened) -> Heard
 
 // Reads a trace to its end, and gives a judge that heard its first lines: at most so many, or all. With `cut` what
 // follows the last newline is dropped, and else it is a bad line. If all are wanted, their bytes are counted. The judge
-// keeps the last lines, or none.
+// keeps the last lines, or none. `details` gets what is told of the lines.
 fn hear_all<R: Read>(
     alloc: Global,
     rules: Rules,
@@ -120,6 +136,7 @@ fn hear_all<R: Read>(
     cut: bool,
     recent: Option<Recent>,
     input: &mut R,
+    details: &mut Details,
 ) -> Result<Listened, AuditFault>
     requires none { IfSome recent (λ lines. lines ≡ []) }
     ensures keeps { IfOk result (λ heard. heard.judge.keeps ≡ is_some recent) }
@@ -129,12 +146,13 @@ fn hear_all<R: Read>(
     ensures few { IfOk result (λ heard. length heard.judge.lines < 2 ^ 63) }
     ensures bad { (n : ℕ) → result ≡ Err (AuditFault.BadLine n) →
         IsSoOfAll (R.remaining input.old) (λ text. IsBad most cut text n) }
+    ensures details { IfOk result (λ heard. AreDetailsOf heard.judge.rules heard.judge.lines details.new) }
 {
     let mut listener = Listener::new(alloc, rules, most, recent)?;
     for reads in 0..MOST_READS {
         let more = listener.read(input)?;
         if !more {
-            return listener.end(cut);
+            return listener.end(cut, details);
         }
     }
     Err(AuditFault::Read)

@@ -1,6 +1,6 @@
 //! The orders of a history, taken anew one after another, and what comes next in it.
 
-ghost use Rattle.std.specs.Prelude.{◌≡◌, ◌↔◌, ◌+◌, ◌^◌, ◌<◌, ◌&&◌, not, true, Some, IsSome, IfOk, []};
+ghost use Rattle.std.specs.Prelude.{◌≡◌, ◌↔◌, ◌+◌, ◌^◌, ◌<◌, ◌&&◌, not, true, false, Some, IsSome, IfOk, []};
 ghost use Rattle.std.specs.List.{slice_get};
 ghost use Rattle.fl_history.specs.declared.history.Line.TheVariants as line;
 ghost use Rattle.fl_core.specs.Tolds.{HasRoom};
@@ -43,6 +43,7 @@ impl Replay {
     pub(crate) fn take(&mut self, line: &Line) -> bool
         requires { HasRoom self.old.core.rules self.old.tolds }
         ensures goes { GoesOnAlike self.old line.now result self.new }
+        ensures stays { result ≡ false → self.new ≡ self.old }
         ensures rules { self.new.core.rules ≡ self.old.core.rules }
         ensures room { HasRoom self.new.core.rules self.new.tolds }
     {

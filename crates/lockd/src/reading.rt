@@ -4,8 +4,8 @@ use crate::descriptors::hold_closed_streams;
 use crate::host::Host;
 use crate::words::tell_unconnected;
 use lockd_commands::{
-    CheckOptions, CommandFault, Kept, LocksOptions, Noting, Rules, Status, Watched, bytes_on,
-    check_on, drive_on, locks_on, script_on,
+    CheckOptions, CommandFault, Details, Kept, LocksOptions, Noting, Rules, Status, bytes_on,
+    check_on, drive_on, locks_on, script_on, tell_hex, tell_script, tell_streams, tell_trace,
 };
 use std::io;
 use std::path::Path;
@@ -16,11 +16,14 @@ const INPUT: &str = "standard input";
 /// `lockd script`.
 pub(crate) fn script(host: Host<'_>, rules: Rules) -> Status {
     let rt = host.rt;
-    let mut input = Watched::of_orders(rt.reader(), host.memory());
+    let mut input = Kept::new(Noting::new(rt.reader()), host.memory());
     let mut output = Noting::new(io::writer(rt));
     let mut faults = rt.stderr();
     let status = script_on(rt.alloc(), rules, &mut input, &mut output, &mut faults);
-    input.tell(&mut faults, status, INPUT, output.failed());
+    if host.verbose {
+        tell_streams(&mut faults, status, input.input().failed(), output.failed());
+        tell_script(&mut faults, status, INPUT, input.text());
+    }
     status
 }
 
@@ -28,11 +31,23 @@ pub(crate) fn script(host: Host<'_>, rules: Rules) -> Status {
 pub(crate) fn check(host: Host<'_>, rules: Rules, tells_quiet: bool, cut: bool) -> Status {
     let (rt, alloc) = (host.rt, host.rt.alloc());
     let options = CheckOptions { tells_quiet, cut };
-    let mut input = Watched::of_trace(rt.reader(), host.memory(), rules, usize::MAX);
+    let mut input = Noting::new(rt.reader());
     let mut output = Noting::new(io::writer(rt));
     let mut faults = rt.stderr();
-    let status = check_on(alloc, rules, options, &mut input, &mut output, &mut faults);
-    input.tell(&mut faults, status, INPUT, output.failed());
+    let mut details = Details::new();
+    let status = check_on(
+        alloc,
+        rules,
+        options,
+        &mut input,
+        &mut output,
+        &mut faults,
+        &mut details,
+    );
+    if host.verbose {
+        tell_streams(&mut faults, status, input.failed(), output.failed());
+        tell_trace(&mut faults, alloc, status, INPUT, &details);
+    }
     status
 }
 
@@ -55,23 +70,37 @@ pub(crate) fn locks(
         None => None,
     };
     let options = LocksOptions { at, file, json };
-    let lines = at.unwrap_or(usize::MAX);
-    let mut input = Watched::of_trace(rt.reader(), host.memory(), rules, lines);
+    let mut input = Noting::new(rt.reader());
     let mut output = Noting::new(io::writer(rt));
     let mut faults = rt.stderr();
-    let status = locks_on(alloc, rules, options, &mut input, &mut output, &mut faults);
-    input.tell(&mut faults, status, INPUT, output.failed());
+    let mut details = Details::new();
+    let status = locks_on(
+        alloc,
+        rules,
+        options,
+        &mut input,
+        &mut output,
+        &mut faults,
+        &mut details,
+    );
+    if host.verbose {
+        tell_streams(&mut faults, status, input.failed(), output.failed());
+        tell_trace(&mut faults, alloc, status, INPUT, &details);
+    }
     status
 }
 
 /// `lockd bytes`.
 pub(crate) fn bytes(host: Host<'_>, rules: Rules) -> Status {
     let rt = host.rt;
-    let mut input = Kept::new(rt.reader(), host.memory());
+    let mut input = Kept::new(Noting::new(rt.reader()), host.memory());
     let mut output = Noting::new(io::writer(rt));
     let mut faults = rt.stderr();
     let status = bytes_on(rt.alloc(), rules, &mut input, &mut output, &mut faults);
-    input.tell(&mut faults, status, INPUT, output.failed());
+    if host.verbose {
+        tell_streams(&mut faults, status, input.input().failed(), output.failed());
+        tell_hex(&mut faults, status, INPUT, input.text());
+    }
     status
 }
 
@@ -79,7 +108,7 @@ pub(crate) fn bytes(host: Host<'_>, rules: Rules) -> Status {
 pub(crate) fn drive(host: Host<'_>, socket: &str) -> Status {
     let rt = host.rt;
     hold_closed_streams(rt);
-    let mut input = Kept::new(rt.reader(), host.memory());
+    let mut input = Kept::new(Noting::new(rt.reader()), host.memory());
     let mut output = Noting::new(io::writer(rt));
     let mut faults = rt.stderr();
     let mut why = None;
@@ -92,9 +121,12 @@ pub(crate) fn drive(host: Host<'_>, socket: &str) -> Status {
         &mut faults,
         &mut why,
     );
-    input.tell(&mut faults, status, INPUT, output.failed());
-    if host.verbose && status == Status::Faulted(CommandFault::Connect) {
-        tell_unconnected(&mut faults, rt, socket, &why);
+    if host.verbose {
+        tell_streams(&mut faults, status, input.input().failed(), output.failed());
+        tell_hex(&mut faults, status, INPUT, input.text());
+        if status == Status::Faulted(CommandFault::Connect) {
+            tell_unconnected(&mut faults, rt, socket, &why);
+        }
     }
     status
 }

@@ -9,7 +9,7 @@ use crate::descriptors::hold_closed_streams;
 use crate::host::Host;
 use crate::words::ServerWords;
 use lockd_cli::{Trace, WhenFull, WhenStuck};
-use lockd_commands::{CommandFault, Noting, Rules, Status, Watched};
+use lockd_commands::{CommandFault, Noting, Rules, Status};
 use lockd_serve::{
     Observer, ServeOptions, Telling, TraceTo, Untraced, WhenUnwritten, WhenWriterFails,
     end_unopened, end_without_file, is_at, is_unused, resume_on, serve_on,
@@ -100,11 +100,7 @@ pub(crate) fn resume(
             return end_unopened(&mut rt.stderr(), &mut words, Untraced::Unopened(why));
         }
     };
-    let status = resume_opened(rt, socket, rules, trace, file, when, &mut words);
-    if host.verbose {
-        tell_file(rt, file, rules, status, &mut rt.stderr());
-    }
-    status
+    resume_opened(rt, socket, rules, trace, file, when, &mut words)
 }
 
 // Goes on in a file that was opened.
@@ -149,22 +145,6 @@ fn file_of(trace: &Trace) -> &str {
         Trace::File(file, _) => file.as_str(),
         Trace::Printed | Trace::Nowhere => "",
     }
-}
-
-// Reads a trace's file once more, if no server goes on behind it for what its lines are, and says more of them.
-fn tell_file<F: Write>(rt: &HostRuntime, file: &str, rules: Rules, status: Status, faults: &mut F) {
-    if !matches!(
-        status,
-        Status::Faulted(CommandFault::BadLine(_) | CommandFault::Differs(_))
-    ) {
-        return;
-    }
-    let Ok(trace) = File::open(rt, Path::new(file)) else {
-        return;
-    };
-    let mut input = Watched::of_trace(trace, Some(rt.alloc()), rules, usize::MAX);
-    let _ = io::copy(&mut input, &mut io::sink());
-    input.tell(faults, status, file, None);
 }
 
 // Where the trace of `lockd serve` goes. Its file is made before the server listens.

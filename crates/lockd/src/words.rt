@@ -1,7 +1,8 @@
 //! What `--verbose` adds on standard error.
 
-use lockd_commands::{Status, tell_streams};
+use lockd_commands::{Details, Status, tell_streams, tell_trace};
 use lockd_serve::{Observer, Parting, Untraced};
+use std::alloc::Global;
 use std::fmt::Display;
 use std::fs::Files;
 use std::io::{ErrorKind, Write};
@@ -104,6 +105,12 @@ impl<R: Files, W: Write> Observer for ServerWords<'_, R, W> {
         self.goes_on = true;
         let file = self.file;
         self.say(format_args!("going on behind the lines of {file}"));
+    }
+
+    fn unresumed(&mut self, alloc: Global, status: Status, details: &Details) {
+        if let Some(to) = &mut self.to {
+            tell_trace(to, alloc, status, self.file, details);
+        }
     }
 
     fn unheard(&mut self, why: io::Error) {

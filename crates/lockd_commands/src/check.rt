@@ -12,7 +12,7 @@ ghost use Rattle.lockd_faults.specs.Faults.{IsTold};
 ghost use Rattle.lockd_faults.specs.declared.fault.CommandFault.{CommandFault};
 
 use fl_core::Rules;
-use fl_judge::{AuditFault, Audited, Finding, audit};
+use fl_judge::{AuditFault, Audited, Details, Finding, audit};
 use lockd_faults::{CommandFault, Status, end, write_all};
 use std::alloc::Global;
 use std::io::{Read, Write};
@@ -30,7 +30,7 @@ pub struct CheckOptions {
 /// rules. With the option `--quiet` a line `quiet` or `not quiet` follows `legal`: whether no owner asked for a record
 /// lock while it waited for one. With the option `--cut` the text after the last newline isn't judged, and `begins`
 /// says that the trace isn't legal, but that a legal one begins with it. All input is read and checked before any
-/// output, in memory that doesn't grow. A fault is one line on `faults`.
+/// output, in memory that doesn't grow. A fault is one line on `faults`. What is told of the lines goes to `details`.
 pub fn check_on<R: Read, W: Write, F: Write>(
     alloc: Global,
     rules: Rules,
@@ -38,6 +38,7 @@ pub fn check_on<R: Read, W: Write, F: Write>(
     input: &mut R,
     output: &mut W,
     faults: &mut F,
+    details: &mut Details,
 ) -> Status
     ensures legal { result ≡ Status.Good → options.cut ≡ false →
         IsJudged rules options (R.remaining input.old) (W.contents output.old) (W.contents output.new) said.Legal }
@@ -63,7 +64,7 @@ pub fn check_on<R: Read, W: Write, F: Write>(
     ensures quiet { (result ≡ Status.Good) ⊎ (result ≡ Status.Different) →
         Keeps (F.contents faults.old) (F.contents faults.new) }
 {
-    match judge(alloc, rules, options, input, output) {
+    match judge(alloc, rules, options, input, output, details) {
         Ok(Finding::Legal) => Status::Good,
         Ok(Finding::Begins) => Status::Good,
         Ok(Finding::Differs(_)) => Status::Different,
@@ -77,6 +78,7 @@ fn judge<R: Read, W: Write>(
     options: CheckOptions,
     input: &mut R,
     output: &mut W,
+    details: &mut Details,
 ) -> Result<Finding, CommandFault>
     ensures judged { IfOk result
         (IsJudged rules options (R.remaining input.old) (W.contents output.old) (W.contents output.new)) }
@@ -88,7 +90,7 @@ fn judge<R: Read, W: Write>(
         → Keeps (W.contents output.old) (W.contents output.new)) }
     ensures fault { IfErr result IsOfText }
 {
-    let audited = match audit(alloc, rules, options.cut, input) {
+    let audited = match audit(alloc, rules, options.cut, input, details) {
         Ok(audited) => audited,
         Err(fault) => return Err(fault_of(fault)),
     };

@@ -1,15 +1,18 @@
 //! The commands of `lockd` but `serve`, as functions: `script`, `check`, `locks` and `bytes` over a reader and two
-//! writers, and `drive`, a client of a server.
+//! writers, and `drive`, a client of a server; and what `--verbose` says of what they read.
 //!
 //! Contracts see no failure of a reader or a writer, and nothing of a socket. They let through:
 //! - a command that tells its fault in part, or not at all;
 //! - one that tells `no memory`, or a read or a write that failed, though none did;
 //! - one that ends well though its output couldn't be flushed;
 //! - a `locks_on` that tells `differs N` in part, or not at all;
+//! - a `check_on` or a `locks_on` that gives other details of its lines, or none (`tests/commands/words.py`);
 //! - a `drive_on` that sends nothing, connects elsewhere, waits before it sends, doesn't close, or says `no memory`
 //!   at an empty path;
 //! - a `drive_on` that prints replies which didn't come from the socket (`try_stored_replies` in `tests/serve/sockets.py`);
-//! - one that says another reason why it isn't connected, or none (`tests/commands/words.py`).
+//! - one that says another reason why it isn't connected, or none (`tests/commands/words.py`);
+//! - a `Kept` that keeps another text, and a `tell_trace`, `tell_script`, `tell_hex` or `tell_streams` that says anything
+//!   else (`tests/commands/words.py`, `tests/commands/texts.py`).
 //!
 //! `fl_stream_tests`, and the scripts of `tests/commands`, `tests/locks` and `tests/serve` refuse
 //! these.
@@ -24,14 +27,19 @@ mod bytes;
 mod check;
 mod drive;
 mod exchange;
+mod kept;
 mod locks;
 mod reply;
 mod script;
+mod verbose;
 
 pub use bytes::bytes_on;
 pub use check::{CheckOptions, check_on};
 pub use drive::drive_on;
 pub use fl_core::Rules;
-pub use lockd_faults::{CommandFault, Kept, Noting, Status, Watched, tell_streams};
+pub use fl_judge::Details;
+pub use kept::Kept;
+pub use lockd_faults::{CommandFault, Noting, Status};
 pub use locks::{LocksOptions, locks_on};
 pub use script::script_on;
+pub use verbose::{tell_hex, tell_script, tell_streams, tell_trace};

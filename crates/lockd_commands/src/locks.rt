@@ -18,7 +18,7 @@ ghost use Rattle.lockd_faults.specs.declared.fault.CommandFault.{CommandFault};
 use crate::check::fault_of;
 use fl_core::{Core, Rules};
 use fl_desk::Verdict;
-use fl_judge::{Judge, hear_first};
+use fl_judge::{Details, Judge, hear_first};
 use fl_locks::{LockRow, lock_json, lock_rows, lock_table};
 use fl_order::{Name, NoMemory};
 use lockd_faults::{CommandFault, Status, end, write_all};
@@ -48,7 +48,8 @@ enum Answer {
 /// `lockd locks`: reads a trace, and writes which locks are held and which requests wait once the replies are told too
 /// that it lacks at its end. The text after the last newline is dropped, so the trace may be cut off, or still be
 /// written. A trace that isn't legal under these rules gets a line `differs N` on `faults`, and nothing on the output.
-/// All input is read before any output, in memory that doesn't grow with it. A fault is one line on `faults`.
+/// All input is read before any output, in memory that doesn't grow with it. A fault is one line on `faults`. What is
+/// told of the lines goes to `details`.
 pub fn locks_on<R: Read, W: Write, F: Write>(
     alloc: Global,
     rules: Rules,
@@ -56,6 +57,7 @@ pub fn locks_on<R: Read, W: Write, F: Write>(
     input: &mut R,
     output: &mut W,
     faults: &mut F,
+    details: &mut Details,
 ) -> Status
     ensures listed { result ≡ Status.Good →
         IsListed rules options.entry (R.remaining input.old) (W.contents output.old) (W.contents output.new) }
@@ -76,7 +78,7 @@ pub fn locks_on<R: Read, W: Write, F: Write>(
         IsOfText fault × IsTold fault (F.contents faults.old) (F.contents faults.new) }
     ensures quiet { result ≡ Status.Good → Keeps (F.contents faults.old) (F.contents faults.new) }
 {
-    match answer_to(alloc, rules, options, input) {
+    match answer_to(alloc, rules, options, input, details) {
         Ok(Answer::Listed(text)) => end(faults, write_all(output, text.as_bytes())),
         Ok(Answer::Differs(text)) => {
             let _ = write_all(faults, text.as_bytes());
@@ -92,13 +94,14 @@ fn answer_to<R: Read>(
     rules: Rules,
     options: LocksOptions<'_>,
     input: &mut R,
+    details: &mut Details,
 ) -> Result<Answer, CommandFault>
     ensures answers { IfOk result (IsAnswer rules options.entry (R.remaining input.old)) }
     ensures bad { IfErr result (λ fault. (n : ℕ) → fault ≡ CommandFault.BadLine n → IsSoOfAll (R.remaining input.old)
         (λ text. BreaksAt LineFits (whole_lines text) n × IsWithin options.entry.at n)) }
     ensures fault { IfErr result (λ fault. IsOfText fault × (fault ≢ CommandFault.Write)) }
 {
-    let judge = match hear_first(alloc, rules, options.at, input) {
+    let judge = match hear_first(alloc, rules, options.at, input, details) {
         Ok(judge) => judge,
         Err(fault) => return Err(fault_of(fault)),
     };

@@ -1,5 +1,4 @@
 pub mod Causes
 pub mod Faults
 pub mod HexLines
-pub mod Inside
 pub mod Status

@@ -25,7 +25,7 @@ const REPLIES: [&str; 7] = ["ok", "entry", "attr", "open", "made", "lock", "err"
 
 /// Why a line is bad.
 #[derive(Clone, Copy)]
-pub(crate) enum Why<'a> {
+pub enum Why<'a> {
     /// For this reason.
     Said(&'static str),
     /// For what stands around one of its words.
@@ -77,13 +77,21 @@ const ODD: Why<'_> = Why::Said("it has an odd number of hex digits");
 
 const NO_REPLIES: Why<'_> = Why::Said("recv waits for 1 to 1000 replies");
 
-/// Why a line is none of a trace, or of a script, if it takes no replies. It has its newline, if one ends it.
-pub(crate) fn why_bad(line: &[u8], takes_replies: bool) -> Why<'_> {
-    let Some(text) = line.strip_suffix(b"\n") else {
-        return if takes_replies { CUT_OFF } else { UNENDED };
-    };
-    if !takes_replies && text.starts_with(b"tell ") {
+/// Why a line is none of a script. A newline ends it, or none does.
+pub fn why_bad_order(text: &[u8], ended: bool) -> Why<'_> {
+    if !ended {
+        return UNENDED;
+    }
+    if text.starts_with(b"tell ") {
         return TOLD;
+    }
+    why_bad(text, ended)
+}
+
+/// Why a line is none of a trace. A newline ends it, or none does. Of one that is too long some may be missing.
+pub fn why_bad(text: &[u8], ended: bool) -> Why<'_> {
+    if !ended {
+        return CUT_OFF;
     }
     if text.is_empty() {
         return EMPTY;
@@ -97,11 +105,11 @@ pub(crate) fn why_bad(line: &[u8], takes_replies: bool) -> Why<'_> {
     }
 }
 
-/// Why a line is none of hex, and none that waits for replies. It has its newline, if one ends it.
-pub(crate) fn why_bad_hex(line: &[u8]) -> Why<'_> {
-    let Some(text) = line.strip_suffix(b"\n") else {
+/// Why a line is none of hex, and none that waits for replies. A newline ends it, or none does.
+pub fn why_bad_hex(text: &[u8], ended: bool) -> Why<'_> {
+    if !ended {
         return UNENDED;
-    };
+    }
     if let Some(why) = odd_byte(text) {
         return why;
     }

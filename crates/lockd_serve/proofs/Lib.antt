@@ -1,2 +1,4 @@
 pub mod BehindLemmas
+pub mod Prefixes
 pub mod RecordLemmas
+pub mod Stored

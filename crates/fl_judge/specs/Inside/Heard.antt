@@ -1,9 +1,10 @@
 -- What is always so of a judge, and of the lines that it heard.
 use Rattle.std.specs.Prelude.{◌≡◌, ◌↔◌, ℕ, ◌-◌, ◌^◌, ◌≤◌, Bool, true, false, Option, Some, None, List, [], ◌∷◌, ◌++◌}
 use Rattle.std.specs.Prelude.{length, take, drop}
+use Rattle.std.specs.List.{slice_get}
 use Rattle.fl_core.specs.Tolds.{HasRoom}
 use Rattle.fl_desk.specs.Leading.{LeadsTo}
-use Rattle.fl_desk.specs.Legal.{IsLegal}
+use Rattle.fl_desk.specs.Legal.{IsLegal, orders_asked}
 use Rattle.fl_desk.specs.Verdicts.{IsBeginning}
 use Rattle.fl_history.specs.declared.history.Line.{Line}
 use Rattle.fl_judge.specs.declared.replay.Replay.{Replay}
@@ -51,3 +52,13 @@ pub record IsHeard (lines : List Line) (heard : ℕ) (r : Replay) (differs : Opt
   pub few : heard ≤ 2 ^ 63
   pub stands : Stands lines r differs
   pub room : HasRoom r.core.rules r.tolds
+
+-- Where the lines differ, this one stands there, and a replay led up to those before it.
+abbrev pub IsStoppedAt : List Line → Replay → Option ℕ → Option Line → Type 0
+IsStoppedAt lines r None found = found ≡ None
+IsStoppedAt lines r (Some n) found = (found ≡ slice_get lines (n - 1)) × LeadsUpTo (take (n - 1) lines) r
+
+-- so many of the lines are orders, and that is known of the line that differs
+pub record IsNoted (lines : List Line) (orders : ℕ) (r : Replay) (differs : Option ℕ) (found : Option Line) : Type 0 where
+  pub asked : orders ≡ orders_asked lines
+  pub stopped : IsStoppedAt lines r differs found

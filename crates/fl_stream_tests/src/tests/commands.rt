@@ -1,6 +1,8 @@
 //! Commands whose output fails only when it is flushed.
 
-use lockd_commands::{CheckOptions, CommandFault, Rules, Status, bytes_on, check_on, script_on};
+use lockd_commands::{
+    CheckOptions, CommandFault, Details, Rules, Status, bytes_on, check_on, script_on,
+};
 use std::alloc::Global;
 use std::io;
 use std::io::Write;
@@ -63,7 +65,18 @@ fn run(
     match command {
         Command::Script => script_on(alloc, rules, &mut input, output, told),
         Command::Bytes => bytes_on(alloc, rules, &mut input, output, told),
-        Command::Check => check_on(alloc, rules, options, &mut input, output, told),
+        Command::Check => {
+            let mut details = Details::new();
+            check_on(
+                alloc,
+                rules,
+                options,
+                &mut input,
+                output,
+                told,
+                &mut details,
+            )
+        }
     }
 }
 

@@ -3,6 +3,7 @@ use Rattle.std.proofs.lemmas.Option.{IfSome_then}
 use Rattle.fl_judge.proofs.Listening.{of_all, if_known, other_err}
 use Rattle.fl_judge.proofs.reading.audit.Goals as goal
 use Rattle.fl_judge.specs.Audit.{judged_part, IsFinding}
+use Rattle.fl_judge.specs.Details.{AreDetailsIn, AreDetailsOf}
 use Rattle.fl_judge.specs.First.{IsSoOfAll}
 use Rattle.fl_judge.specs.Inside.Hearing.{AreJudged, IsBad}
 use Rattle.fl_judge.specs.declared.finding.AuditFault.TheVariants as fault
@@ -42,3 +43,17 @@ returns-in-Err-clause-bad g c = λ n e.
     let bad : IsSoOfAll left (λ text. IsBad None c.args.cut text n) = c.in-Err.ensures.bad n (other_err c.in-Err.fault (fault.BadLine n) e) in
     if_known left (λ bytes. BreaksAt LineFits (judged_part c.args.cut bytes) n)
     (of_all left (λ text. IsBad None c.args.cut text n) (λ text. BreaksAt LineFits (judged_part c.args.cut text) n) (λ text b. b.breaks) bad)
+
+pub returns-in-Ok-clause-details : goal.returns-in-Ok-clause-details
+returns-in-Ok-clause-details g c =
+    let left : Option (List ℕ) = g.R.Read.remaining c.args.input.now in
+    let cut = c.args.cut in
+    let lines : List Line = c.in-Ok.heard.judge.lines in
+    let details = c.hear_all.new.details in
+    of_all left (λ text. AreJudged None cut text lines c.in-Ok.heard.bytes) (λ text. AreDetailsIn c.args.rules (judged_part cut text) details)
+    (λ text judged. record {
+      lines = lines;
+      spelled = judged.whole refl;
+      fits = judged.first.fits;
+      are = subst (λ (r : Rules). AreDetailsOf r lines details) c.in-Ok.ensures.rules c.in-Ok.ensures.details;
+    }) c.in-Ok.ensures.heard

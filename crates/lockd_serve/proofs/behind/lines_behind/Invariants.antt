@@ -1,6 +1,6 @@
 use Rattle.std.proofs.Common.{◌≡◌, ◌++◌, take}
 use Rattle.fl_judge.specs.Present.{told_lines}
-use Rattle.fl_resume.proofs.resuming.lines_behind.Given as goal
+use Rattle.lockd_serve.proofs.behind.lines_behind.Given as goal
 
 -- the replies so far are behind the lines
 abbrev pub invariant-loop-told : goal.invariant-loop-told

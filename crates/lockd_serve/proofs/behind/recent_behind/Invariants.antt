@@ -1,6 +1,6 @@
 use Rattle.std.proofs.Common.{◌≡◌, ◌++◌, take}
 use Rattle.fl_judge.specs.Present.{told_lines}
-use Rattle.fl_resume.proofs.resuming.recent_behind.Given as goal
+use Rattle.lockd_serve.proofs.behind.recent_behind.Given as goal
 
 -- the replies so far are behind the lines
 abbrev pub invariant-loop-told : goal.invariant-loop-told

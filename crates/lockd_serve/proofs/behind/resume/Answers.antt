@@ -2,11 +2,11 @@ use Rattle.std.proofs.Common.{◌≡◌, List, ◌++◌, ◌∙◌, ap, sym, sub
 use Rattle.fl_desk.specs.Legal.{IsLegal}
 use Rattle.fl_history.specs.declared.history.Line.{Line}
 use Rattle.fl_judge.specs.Present.{told_lines}
-use Rattle.fl_resume.proofs.Stored.{ahead_on, served_as, so_of}
+use Rattle.lockd_serve.proofs.Stored.{ahead_on, served_as, so_of}
 use Rattle.fl_session.specs.Served.{IsAheadBehind}
 use Rattle.fl_stream.specs.Streams.{Stream}
 use Rattle.fl_transport.specs.Streams.{Streams}
-use Rattle.fl_resume.proofs.resuming.resume.Goals as goal
+use Rattle.lockd_serve.proofs.behind.resume.Goals as goal
 
 pub returns-clause-resumed : goal.returns-clause-resumed
 returns-clause-resumed g c =

@@ -2,7 +2,7 @@ use Rattle.std.proofs.Common.{rules, sym, subst}
 use Rattle.fl_judge.specs.First.{IsSoOfAll}
 use Rattle.lockd_serve.specs.Behind.{FileSays}
 use Rattle.lockd_serve.proofs.BehindLemmas.{no_file, unread}
-use Rattle.lockd_serve.proofs.resuming.resumed_from.Goals as goal
+use Rattle.lockd_serve.proofs.resume_file.resumed_from.Goals as goal
 
 pub returns-then-not-unwrap_or-clause-error : goal.returns-then-not-unwrap_or-clause-error
 returns-then-not-unwrap_or-clause-error g c = no_file c.args.rules (g.T.Read.remaining c.args.file.now)

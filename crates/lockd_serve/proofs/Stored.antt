@@ -3,7 +3,7 @@ use Rattle.std.proofs.Common.{◌≡◌, ℕ, Bool, true, List, [], Option, Some
 use Rattle.std.specs.Prelude.{◌⊎◌, IfSome}
 use mathlib.Core.List.{IsPrefix}
 use Rattle.fl_history.specs.declared.history.Line.{Line}
-use Rattle.fl_resume.proofs.Prefixes.{of_another}
+use Rattle.lockd_serve.proofs.Prefixes.{of_another}
 use Rattle.fl_session.specs.Recorded.{done_of, journal_lines}
 use Rattle.fl_session.specs.Served.{IsAheadBehind, IsServedBehind}
 use Rattle.fl_session.specs.Session.{session_behind, session_from}

@@ -2,7 +2,7 @@
 use Rattle.std.specs.Prelude.{ℕ, List, Option, IsTrue}
 use Rattle.fl_desk.specs.Legal.{IsLegal}
 use Rattle.fl_history.specs.declared.history.Line.{Line}
-use Rattle.fl_resume.specs.declared.resuming.Ended.{Ended}
+use Rattle.lockd_serve.specs.declared.behind.ResumedRun.{ResumedRun}
 use Rattle.fl_session.specs.Served.{IsAheadBehind, IsServedBehind}
 use Rattle.fl_stream.specs.Streams.{HoldsText, IsBegun, Wrote}
 use Rattle.fl_trace.specs.Text.{text_of}
@@ -14,7 +14,7 @@ use Rattle.fl_waiting.specs.declared.rules.Rules.{Rules}
 -- text of the stored lines, with or without more behind it, and whatever the client got are replies to messages whose
 -- lines are stored. `contents` is what a file says that it holds.
 pub record IsResumed {T : Type 0} (rules : Rules) (base : List Line) (contents : T → Option (List ℕ)) (streams : Streams)
-    (ended : Ended T) : Type 0 where
+    (ended : ResumedRun T) : Type 0 where
   pub lines : List Line
   pub stored : List Line
   pub served : IsServedBehind rules base streams ended.broken

@@ -6,7 +6,7 @@ ghost use mathlib.Core.List.{IsPrefix};
 ghost use Rattle.fl_desk.specs.Kept.{IsKept};
 ghost use Rattle.fl_history.specs.declared.history.Line.{Line as Entry};
 ghost use Rattle.fl_judge.specs.Present.{told_lines};
-ghost use Rattle.fl_resume.specs.Resumed.{IsResumed};
+ghost use Rattle.lockd_serve.specs.Resumed.{IsResumed};
 ghost use Rattle.fl_stream.specs.Streams.{HoldsText, IsAs, IsBegun, Wrote};
 ghost use Rattle.fl_trace.specs.Text.{text_of};
 
@@ -21,9 +21,9 @@ use fl_stream::Streamed;
 use std::alloc::Global;
 use std::io::{Read, Write};
 
-/// How a session ended that went on behind a trace.
+/// A session that went on behind a trace, once it is over.
 #[derive(Drop)]
-pub struct Ended<T> {
+pub struct ResumedRun<T> {
     /// The file that got its lines.
     pub file: T,
     /// Why it ended early, if it did; `Unstored` if lines couldn't be written before their replies.
@@ -49,7 +49,7 @@ pub fn resume<R: Read, W: Write, T: Write + Drop>(
     recent: Recent,
     file: T,
     rules: Rules,
-) -> Result<Ended<T>, NoMemory>
+) -> Result<ResumedRun<T>, NoMemory>
     requires there { IsAs (T.contents file) (text_of resumed.past.items) }
     requires recent { recent ≡ resumed.past.items }
     requires kept { IsKept (resumed.past.items ++ told_lines resumed.missing) resumed.present }
@@ -80,7 +80,7 @@ pub fn resume<R: Read, W: Write, T: Write + Drop>(
         unreachable!()
     };
     let (file, whole) = finish(journal.into_stream());
-    Ok(Ended {
+    Ok(ResumedRun {
         file,
         fault,
         refused,

@@ -10,13 +10,13 @@ ghost use Rattle.lockd_serve.specs.Behind.{AreLinesOf, FileSays, ServesBehind, S
 ghost use Rattle.lockd_serve.specs.Ending.{Ending};
 ghost use Rattle.lockd_serve.specs.Inside.{DiffersBy, told_of_reading};
 
+use crate::behind::resume;
 use crate::ending::{end_resumed, end_unheard, end_unopened};
 use crate::serving::hang_up;
 use fl_core::Rules;
 use fl_desk::Verdict;
 use fl_history::Recent;
-use fl_judge::{AuditFault, Heard, Judge, Resumed, hear_cut};
-use fl_resume::resume;
+use fl_judge::{AuditFault, Details, Heard, Judge, Resumed, hear_cut};
 use lockd_faults::{CommandFault, Noting, Status, end};
 use lockd_streams::{
     Observer, OldSocket, Patient, Retrying, Spinning, Telling, Untraced, WhenUnwritten, connection,
@@ -68,11 +68,15 @@ pub fn resume_on<R: Net + Files + Clock, F: Write, N: Write + Drop, O: Observer>
     if let Some(why) = untakable(rt, &file, name) {
         return end_unopened(faults, observer, why);
     }
-    let mut uncut = None;
-    let (resumed, recent) = match resumed_from(alloc, rules, &mut file, &mut uncut) {
+    let (mut uncut, mut details) = (None, Details::new());
+    let (resumed, recent) = match resumed_from(alloc, rules, &mut file, &mut uncut, &mut details) {
         Ok(found) => found,
         Err(CommandFault::Trace) => return end_unopened(faults, observer, unfit(uncut)),
-        Err(fault) => return end(faults, Err(fault)),
+        Err(fault) => {
+            let status = end(faults, Err(fault));
+            observer.unresumed(alloc, status, &details);
+            return status;
+        }
     };
     observer.resumed();
     let stream = match connection(rt, alloc, path, OldSocket::Replace, observer) {
@@ -115,12 +119,14 @@ fn unfit(uncut: Option<io::Error>) -> Untraced {
 
 /// What a server goes on from behind the lines of a trace's file, under these rules, and the last of these lines. Nothing
 /// was read of the file yet. What follows its last newline is cut off, once its lines are known to begin a legal history.
-/// The fault is `Trace` if it is no regular file, or can't be cut off, and then `uncut` gets the reason.
+/// The fault is `Trace` if it is no regular file, or can't be cut off, and then `uncut` gets the reason. What is told of
+/// its lines goes to `details`.
 pub fn resumed_from<T: Read + OpenFile>(
     alloc: Global,
     rules: Rules,
     file: &mut T,
     uncut: &mut Option<io::Error>,
+    details: &mut Details,
 ) -> Result<(Resumed, Recent), CommandFault>
     ensures lines { IfOk result (λ r. IsSoOfAll (T.remaining file.old) (λ text. AreLinesOf text r.0.past.items)) }
     ensures recent { IfOk result (λ r. r.1 ≡ r.0.past.items) }
@@ -132,7 +138,7 @@ pub fn resumed_from<T: Read + OpenFile>(
     if !regular.unwrap_or(false) {
         return Err(CommandFault::Trace);
     }
-    let heard = match hear_cut(alloc, rules, file) {
+    let heard = match hear_cut(alloc, rules, file, details) {
         Ok(heard) => heard,
         Err(fault) => return Err(told(fault)),
     };

@@ -1,0 +1,43 @@
+-- What is told of the lines of a trace, beside what is found.
+use Rattle.std.specs.Prelude.{◌≡◌, ℕ, ◌-◌, Option, Some, None, List, ◌∷◌, ◌++◌, length, take}
+use Rattle.std.specs.List.{slice_get}
+use Rattle.fl_desk.specs.Legal.{IsLegal, orders_asked}
+use Rattle.fl_desk.specs.Verdicts.{DiffersAt}
+use Rattle.fl_history.specs.declared.history.Line.{Line}
+use Rattle.fl_history.specs.declared.history.Line.TheVariants as line
+use Rattle.fl_judge.specs.declared.details.Details.{Details}
+use Rattle.fl_judge.specs.declared.details.Difference.{Difference}
+use Rattle.fl_order.specs.declared.told.Told.{Told}
+use Rattle.fl_trace.specs.Text.{text_of, Fits}
+use Rattle.fl_waiting.specs.declared.rules.Rules.{Rules}
+
+-- The reply that has to come next: each legal history that begins with these lines goes on by it. If none has to, the
+-- lines are one.
+abbrev pub IsDueBehind : Rules → List Line → Option Told → Type 0
+IsDueBehind rules lines None = IsLegal rules lines
+IsDueBehind rules lines (Some told) =
+    (rest : List Line) → IsLegal rules (lines ++ rest) → (more : List Line) × (rest ≡ line.Told told ∷ more)
+
+-- the lines break the rules there, this one of them stands there, if one does, and this reply has to
+pub record IsDifferenceAt (rules : Rules) (lines : List Line) (d : Difference) : Type 0 where
+  pub differs : DiffersAt rules lines d.number
+  pub found : d.found ≡ slice_get lines (d.number - 1)
+  pub due : IsDueBehind rules (take (d.number - 1) lines) d.due
+
+-- where the lines break the rules, if they do
+abbrev pub IsDifferenceOf : Rules → List Line → Option Difference → Type 0
+IsDifferenceOf rules lines None = IsLegal rules lines
+IsDifferenceOf rules lines (Some d) = IsDifferenceAt rules lines d
+
+-- how many lines there are, how many of them are orders, and where they break the rules
+pub record AreDetailsOf (rules : Rules) (lines : List Line) (details : Details) : Type 0 where
+  pub lines_are : details.lines ≡ length lines
+  pub orders_are : details.orders ≡ orders_asked lines
+  pub difference_is : IsDifferenceOf rules lines details.difference
+
+-- a text is that of lines, of which that is told
+pub record AreDetailsIn (rules : Rules) (trace : List ℕ) (details : Details) : Type 0 where
+  pub lines : List Line
+  pub spelled : trace ≡ text_of lines
+  pub fits : Fits lines
+  pub are : AreDetailsOf rules lines details

@@ -1,2 +1,0 @@
--- What this crate keeps to itself. No public clause cites this module.
-pub mod Watch
