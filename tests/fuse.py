@@ -6,7 +6,7 @@ message: `uid`, `gid`, `pid`. A message is of node 2 and fh 1 by default, which 
 """
 import struct
 from errno import (  # noqa: F401: tests take them from here, beside the opcodes.
-    EAGAIN, EBADF, EDEADLK, EEXIST, EINTR, EINVAL, EIO, ENAMETOOLONG, ENFILE, ENOENT, ENOLCK, ENOMEM, ENOSPC, ENOSYS, EPROTO)
+    EAGAIN, EBADF, EDEADLK, EEXIST, EINTR, EINVAL, ENAMETOOLONG, ENFILE, ENOENT, ENOLCK, ENOMEM, ENOSPC, ENOSYS, EPROTO)
 
 LOOKUP, FORGET, GETATTR, SETATTR, UNLINK, OPEN, READ, RELEASE, FLUSH, INIT = 1, 2, 3, 4, 10, 14, 15, 18, 25, 26
 GETLK, SETLK, SETLKW, CREATE, INTERRUPT, DESTROY, BATCH_FORGET = 31, 32, 33, 35, 36, 38, 42
@@ -196,7 +196,7 @@ def lock_reply(unique, start, end, kind, pid):
 
 
 # How long replies are.
-INIT_SIZE, CREATE_SIZE, ENTRY_SIZE, ATTR_SIZE, OPEN_SIZE, LOCK_SIZE, BARE_SIZE = 80, 160, 144, 120, 32, 40, REPLY_HEADER
+INIT_SIZE, CREATE_SIZE, ENTRY_SIZE, ATTR_SIZE, OPEN_SIZE, BARE_SIZE = 80, 160, 144, 120, 32, REPLY_HEADER
 
 
 # ---- what stands in bytes
@@ -223,19 +223,9 @@ def error_of(reply_):
     return -struct.unpack_from("<i", reply_, 4)[0]
 
 
-def entry_of(reply_):
-    """The node of a reply to a LOOKUP or a CREATE."""
-    return struct.unpack_from("<Q", reply_, REPLY_HEADER)[0]
-
-
 def made_of(reply_):
     """The node and the fh of a reply to a CREATE."""
     return struct.unpack_from("<Q120xQ", reply_, REPLY_HEADER)
-
-
-def opened_of(reply_):
-    """The fh of a reply to an OPEN."""
-    return struct.unpack_from("<Q", reply_, REPLY_HEADER)[0]
 
 
 def lock_of(reply_):

@@ -17,7 +17,6 @@ import weakref
 from concurrent.futures import ThreadPoolExecutor
 
 from tests import fuse
-from tests.fuse import message  # noqa: F401: scripts take it from here.
 
 TOP = os.path.dirname(os.path.dirname(os.path.realpath(__file__)))
 PROGRAM = os.path.realpath(os.environ.get("LOCKD", f"{TOP}/crates/lockd/out/lockd"))
