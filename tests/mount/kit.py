@@ -24,10 +24,15 @@ class Mount:
         self.folder = folder or tempfile.mkdtemp(dir=WORK)
         if not folder:
             os.chmod(self.folder, mode)
-        self.words, self.said = words, tempfile.TemporaryFile("w+", dir=WORK)
-        self.running = subprocess.Popen([program, *words, "--", self.folder], stdout=self.said, stderr=errors,
-                                        env={**os.environ, "TMPDIR": WORK, **env})
-        until(lambda: "mounted at" in self.output() or self.running.poll() is not None)
+        self.words = words
+        for _ in range(3):
+            self.said = tempfile.TemporaryFile("w+", dir=WORK)
+            self.running = subprocess.Popen([program, *words, "--", self.folder], stdout=self.said, stderr=errors,
+                                            env={**os.environ, "TMPDIR": WORK, **env})
+            until(lambda: "mounted at" in self.output() or self.running.poll() is not None)
+            # On a busy machine a server with many files may take longer to start than it is given.
+            if "the server doesn't answer INIT" not in self.output():
+                break
         if self.running.poll() is not None and "Operation not permitted" in self.output() and not refused:
             print(f"mount/kit: not tried: {self.output()}", file=sys.stderr, end="")
             os._exit(77)
