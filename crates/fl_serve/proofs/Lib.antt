@@ -2,3 +2,4 @@ pub mod GrowingLemmas
 pub mod PartLemmas
 pub mod PostLemmas
 pub mod ServingLemmas
+pub mod WorkingLemmas

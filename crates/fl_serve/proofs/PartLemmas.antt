@@ -14,9 +14,9 @@ use Rattle.fl_history.specs.declared.history.Line.{Line}
 use Rattle.fl_intake.specs.Often.{Weight}
 use Rattle.fl_log.specs.Appended.{Appended, HasAll as HasAllEntries}
 use Rattle.fl_log.specs.Growing.{Grows}
-use Rattle.fl_pool.specs.Working.{IsDone, Work, some_is}
+use Rattle.fl_serve.specs.Inside.Working.{IsDone, Work}
 use Rattle.fl_serve.proofs.GrowingLemmas.{by_begins, just_these}
-use Rattle.fl_serve.specs.Serve.{IsAnswered, Part, orders_of}
+use Rattle.fl_serve.specs.Serve.{IsAnswered, Part, orders_of, some_is}
 use Rattle.fl_waiting.specs.declared.rules.Rules.{Rules}
 use Rattle.fl_workers.specs.Sent.{entries_of}
 use Rattle.fl_workers.specs.Worked.{AreShown, Outcome, Shows, answers, entry_for, handed, looked, order_of, refused, some_refused}

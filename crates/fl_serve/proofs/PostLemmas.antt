@@ -5,7 +5,7 @@ use Rattle.std.proofs.lemmas.List.Elements.{All-head, All-push, All-tail}
 use Rattle.fl_board.specs.Seats.{Place}
 use Rattle.fl_desk.specs.Answered.{answered_by}
 use Rattle.fl_log.specs.Appended.{Appended}
-use Rattle.fl_pool.specs.Working.{IsIdle}
+use Rattle.fl_serve.specs.Inside.Working.{IsIdle}
 use Rattle.fl_workers.specs.declared.entry.ReplyEntry.{ReplyEntry}
 
 -- nothing was done at a fresh seat, with a fresh appender in its worker's name

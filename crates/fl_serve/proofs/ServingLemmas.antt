@@ -18,7 +18,7 @@ use Rattle.fl_history.specs.declared.history.Line.{Line}
 use Rattle.fl_intake.specs.Often.{Weight}
 use Rattle.fl_log.specs.Appended.{Appended, HasAll as HasAllEntries, IsAppended}
 use Rattle.fl_log.specs.Growing.{Grows}
-use Rattle.fl_pool.specs.Working.{HaveDone, Work}
+use Rattle.fl_serve.specs.Inside.Working.{HaveDone, Work}
 use Rattle.fl_serve.proofs.GrowingLemmas.{appended_more, by_begins, just_these, then_more}
 use Rattle.fl_serve.proofs.PartLemmas.{answered_each, as_many_handed, author_of, gave_each, parts_of, same_orders, same_refused}
 use Rattle.fl_serve.proofs.PartLemmas.{same_workers}

@@ -1,6 +1,6 @@
 -- What a session with workers did.
 use Rattle.std.specs.Prelude.{◌≡◌, ℕ, ◌+◌, ◌≤◌, ◌⊎◌, Bool, true, false, List, [], ◌∷◌, ◌++◌, All, length, Option, None}
-use Rattle.std.specs.Prelude.{IfSome, IsSome, Some, flat_map, map, sum_by}
+use Rattle.std.specs.Prelude.{◌||◌, IfSome, IsSome, Some, flat_map, map, sum_by}
 use Rattle.std.specs.Io.KnownBytes.{Keeps}
 use Rattle.std.specs.List.{range_with_len}
 use Rattle.fl_desk.specs.Answered.{IsAnsweredAfter, answered_by}
@@ -8,7 +8,6 @@ use Rattle.fl_desk.specs.Asked.{Orders}
 use Rattle.fl_desk.specs.Legal.{IsLegal, orders_asked}
 use Rattle.fl_history.specs.declared.history.Line.{Line}
 use Rattle.fl_intake.specs.Often.{AreAsOften}
-use Rattle.fl_pool.specs.Working.{some_is}
 use Rattle.fl_session.specs.Recorded.{done_of}
 use Rattle.fl_session.specs.declared.done.Done.{Done}
 use Rattle.fl_session.specs.declared.recorded.Recorded.{Recorded}
@@ -40,6 +39,11 @@ orders_of part = map order_of part.outcomes
 pub record IsAnswered (rules : Rules) (history : List Line) (part : Part) : Type 0 where
   pub handed : answered_by part.worker history ≡ answers part.outcomes
   pub shown : AreShown (IsAnsweredAfter rules) part.worker [] [] part.outcomes history
+
+-- one of these is so
+abbrev pub some_is : List Bool → Bool
+some_is [] = false
+some_is (b ∷ bs) = b || some_is bs
 
 -- The orders of the messages are those that the workers took, each as often. Each of these was handed in, looked for or
 -- refused. The history has no order but those that were handed in. `refused` is true exactly if some order was refused.

@@ -11,15 +11,15 @@ ghost use Rattle.fl_transport.specs.Ending.{IsRead};
 ghost use Rattle.fl_workers.specs.Received.{HasReceived, answer_by};
 ghost use Rattle.fl_workers.specs.Room.{HasRoomFor};
 ghost use Rattle.fl_workers.specs.Sent.{spelled};
-ghost use Rattle.fl_pool.specs.Working.{HaveDone};
+ghost use Rattle.fl_serve.specs.Inside.Working.{HaveDone};
 ghost use Rattle.fl_serve.specs.Inside.Closing.{HasAll, HasGrown, HasSaidGoodbye, last_words};
 ghost use Rattle.fl_session.specs.Recorded.{done_of};
 ghost use Rattle.fl_serve.specs.Serve.{IsServedBy};
 
+use crate::pool::{Back, WorkerPool, handed_in};
 use fl_board::{Board, BoardName, Seat};
 use fl_history::Journal;
 use fl_log::Appender;
-use fl_pool::{Back, WorkerPool, handed_in};
 use fl_session::Recorded;
 use fl_transport::{Fault, Response};
 use fl_workers::{

@@ -12,6 +12,7 @@
 #![tactic(auto)]
 
 mod finishing;
+mod pool;
 mod ready;
 mod rooms;
 mod serving;

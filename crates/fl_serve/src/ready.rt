@@ -4,18 +4,18 @@ ghost use Rattle.std.specs.Prelude.{◌≡◌, ◌≤◌, ◌<◌, ◌+◌, [], 
 ghost use Rattle.std.specs.Prelude.{false, map, vec_capacity};
 ghost use Rattle.std.specs.List.{range_with_len};
 ghost use Rattle.fl_transport.specs.Inbox.{IsUnread};
-ghost use Rattle.fl_pool.specs.Working.{IsFresh};
+ghost use Rattle.fl_serve.specs.Inside.Working.{IsFresh};
 ghost use Rattle.fl_serve.specs.Serve.{IsRecordedBy};
 ghost use Rattle.fl_workers.specs.Room.{HasRoomFor, HasRowFor};
 
 use crate::finishing::{finish, unstarted};
+use crate::pool::{Posts, WorkerPool};
 use crate::rooms::{Own, Rooms, Stock, posts_at};
 use crate::serving::Staff;
 use fl_board::{Board, BoardName};
 use fl_history::Journal;
 use fl_intake::{Intake, PutEnd};
 use fl_log::{Appender, FreshLog};
-use fl_pool::{Posts, WorkerPool};
 use fl_session::Recorded;
 use fl_transport::{Fault, Inbox};
 use fl_workers::{Gate, ReplyEntry, ReplyRoom, SharedSender, WriterName};

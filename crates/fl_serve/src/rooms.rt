@@ -2,17 +2,17 @@
 
 ghost use Rattle.std.specs.Prelude.{◌≡◌, ◌≤◌, ◌<◌, ◌+◌, [], All, false, length, map, vec_capacity, IfOk};
 ghost use Rattle.std.specs.List.{range_with_len};
-ghost use Rattle.fl_pool.specs.Working.{IsFresh};
+ghost use Rattle.fl_serve.specs.Inside.Working.{IsFresh};
 ghost use Rattle.fl_transport.specs.Inbox.{IsUnread};
 ghost use Rattle.fl_workers.specs.Room.{HasRoomFor, HasRowFor};
 
+use crate::pool::{Back, Posts, Thread};
 use fl_board::{Board, BoardName, OpenFault, Seat};
 use fl_core::Rules;
 use fl_history::Journal;
 use fl_intake::{Intake, PutEnd, TakeEnd};
 use fl_log::FreshLog;
 use fl_order::NoMemory;
-use fl_pool::{Back, Posts, Thread};
 use fl_replica::Ask;
 use fl_transport::{Inbox, ReplyBuffer};
 use fl_workers::{Post, ReplyRoom, RowRoom, SharedSender, WriterName};

@@ -2,7 +2,7 @@ use Rattle.std.proofs.Common.{◌≡◌, ℕ, ◌+◌, ◌∙◌, Bool, refl, su
 use Rattle.std.specs.Prelude.{◌||◌}
 use Rattle.fl_intake.specs.Ends.{weight_taken}
 use Rattle.fl_intake.specs.Often.{Weight}
-use Rattle.fl_pool.specs.Working.{HaveDone}
+use Rattle.fl_serve.specs.Inside.Working.{HaveDone}
 use Rattle.fl_serve.proofs.ServingLemmas.{closed_as, never_no_reader, served_by}
 use Rattle.fl_serve.proofs.finishing.finish.Goals as goal
 

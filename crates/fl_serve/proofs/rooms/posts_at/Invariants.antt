@@ -1,5 +1,5 @@
 use Rattle.std.proofs.Common.{◌≡◌, ◌+◌, ◌≤◌, ◌<◌, ◌++◌, [], All, length, map, vec_capacity}
-use Rattle.fl_pool.specs.Working.{IsIdle}
+use Rattle.fl_serve.specs.Inside.Working.{IsIdle}
 use Rattle.fl_serve.proofs.rooms.posts_at.Given as goal
 
 -- an idle post for each seat so far, in their order, and parts of the ledger for the others

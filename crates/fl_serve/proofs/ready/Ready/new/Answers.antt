@@ -1,6 +1,6 @@
 use Rattle.std.proofs.Common.{rules, ◌≡◌, ◌+◌, All, arith, ap, sym, subst, ◌∙◌, map, length}
 use Rattle.fl_board.specs.Seats.{Place}
-use Rattle.fl_pool.specs.Working.{IsFresh}
+use Rattle.fl_serve.specs.Inside.Working.{IsFresh}
 use Rattle.fl_serve.proofs.ServingLemmas.{as_many, workers_of}
 use Rattle.fl_workers.specs.Room.{HasRowFor}
 use Rattle.fl_serve.proofs.ready.Ready.new.Goals as goal

@@ -1,7 +1,7 @@
 use Rattle.std.proofs.Common.{◌≡◌, ◌+◌, ◌<◌, ◌≤◌, ◌++◌, All, length, map, vec_capacity}
 use Rattle.fl_intake.specs.Ends.{weight_taken}
-use Rattle.fl_pool.specs.Working.{HaveDone, IsFresh}
-use Rattle.fl_pool.proofs.pool.joined.Given as goal
+use Rattle.fl_serve.specs.Inside.Working.{HaveDone, IsFresh}
+use Rattle.fl_serve.proofs.pool.joined.Given as goal
 
 -- place, appender and end of each thread so far came back, in their order, and there is room for the others
 abbrev pub invariant-loop-thread : goal.invariant-loop-thread

@@ -1,8 +1,8 @@
 use Rattle.std.proofs.Common.{◌+◌, Some}
 use Rattle.std.proofs.lemmas.List.Elements.{All-pop}
-use Rattle.fl_pool.specs.Working.{IsFresh}
+use Rattle.fl_serve.specs.Inside.Working.{IsFresh}
 use Rattle.fl_workers.specs.Room.{HasRowFor}
-use Rattle.fl_pool.proofs.pool.WorkerPool.last_of.Goals as goal
+use Rattle.fl_serve.proofs.pool.WorkerPool.last_of.Goals as goal
 
 pub returns-in_err-end-clause-ends : goal.returns-in_err-end-clause-ends
 returns-in_err-end-clause-ends g c =

@@ -1,7 +1,7 @@
 use Rattle.std.proofs.Common.{rules}
-use Rattle.fl_pool.specs.Working.{IsFresh, IsIdle}
-use Rattle.fl_pool.proofs.WorkingLemmas.{all_pushed, ended, first_and_rest, moves}
-use Rattle.fl_pool.proofs.pool.WorkerPool.start_all.Goals as goal
+use Rattle.fl_serve.specs.Inside.Working.{IsFresh, IsIdle}
+use Rattle.fl_serve.proofs.WorkingLemmas.{all_pushed, ended, first_and_rest, moves}
+use Rattle.fl_serve.proofs.pool.WorkerPool.start_all.Goals as goal
 
 pub loop-post-preserved : goal.loop-post-preserved
 loop-post-preserved g c =

@@ -13,7 +13,8 @@ use Rattle.fl_desk.specs.Asked.{Orders}
 use Rattle.fl_intake.specs.Ends.{TakeSide, weight_taken}
 use Rattle.fl_intake.specs.Often.{Weight}
 use Rattle.fl_log.specs.Appended.{Appended}
-use Rattle.fl_pool.specs.Working.{HasComeBack, HaveDone, HaveWorked, IsDone, Returns, Work, idle, some_is, standing_at}
+use Rattle.fl_serve.specs.Inside.Working.{HasComeBack, HaveDone, HaveWorked, IsDone, Returns, Work, idle, standing_at}
+use Rattle.fl_serve.specs.Serve.{some_is}
 use Rattle.fl_transport.specs.declared.fault.Fault.{Fault}
 use Rattle.fl_transport.specs.declared.response.Response.{Response}
 use Rattle.fl_waiting.specs.declared.rules.Rules.{Rules}

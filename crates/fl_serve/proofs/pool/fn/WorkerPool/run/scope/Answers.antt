@@ -1,8 +1,8 @@
 use Rattle.std.proofs.Common.{rules, ◌∙◌, ap}
 use Rattle.fl_workers.specs.declared.receiver.Received.{Received}
-use Rattle.fl_pool.proofs.WorkingLemmas.{all_back, received_as}
-use Rattle.fl_pool.proofs.pool.fn.WorkerPool.run.scope.Goals.{then-start_all, else-start_all}
-use Rattle.fl_pool.proofs.pool.fn.WorkerPool.run.scope.Goals as goal
+use Rattle.fl_serve.proofs.WorkingLemmas.{all_back, received_as}
+use Rattle.fl_serve.proofs.pool.fn.WorkerPool.run.scope.Goals.{then-start_all, else-start_all}
+use Rattle.fl_serve.proofs.pool.fn.WorkerPool.run.scope.Goals as goal
 
 pub returns : goal.returns
 returns g c = record {

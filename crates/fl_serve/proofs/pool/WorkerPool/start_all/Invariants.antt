@@ -1,7 +1,7 @@
 use Rattle.std.proofs.Common.{◌≡◌, ◌+◌, ◌≤◌, ◌++◌, All, length, map, vec_capacity}
-use Rattle.fl_pool.specs.Working.{IsFresh, IsIdle}
+use Rattle.fl_serve.specs.Inside.Working.{IsFresh, IsIdle}
 use Rattle.fl_workers.specs.Room.{HasRowFor}
-use Rattle.fl_pool.proofs.pool.WorkerPool.start_all.Given as goal
+use Rattle.fl_serve.proofs.pool.WorkerPool.start_all.Given as goal
 
 -- a thread for each post so far, in their order, and idle posts and fresh ends for the others, with room for rows
 abbrev pub invariant-loop-post : goal.invariant-loop-post

@@ -1,10 +1,15 @@
 //! The workers of a session, from start to join.
+//!
+//! `WorkerPool::run` begins the session once all its workers are started, and before it reads: what is given to the
+//! sender earlier is lost. If a worker can't be started, nothing is read (`unread`) and nothing more is to be sent
+//! (`quiet`). Contracts let through a `run` that begins earlier, later or never, that says `NoMemory` at once, or that
+//! starts no worker and leaves all orders to `handed_in`. `fl_serve_tests` and `tools/try_failing` refuse these.
 
 ghost use Rattle.std.specs.Prelude.{◌≡◌, ◌≤◌, ◌<◌, ◌+◌, ◌||◌, ℕ, Bool, [], All, IfOk, IfSome, true, false, length, map};
 ghost use Rattle.std.specs.Prelude.{sum_by, vec_capacity};
 ghost use Rattle.fl_intake.specs.Often.{Weight};
 ghost use Rattle.fl_intake.specs.Ends.{weight_taken};
-ghost use Rattle.fl_pool.specs.Working.{HasComeBack, HasRun, HaveDone, IsFresh, IsIdle};
+ghost use Rattle.fl_serve.specs.Inside.Working.{HasComeBack, HasRun, HaveDone, IsFresh, IsIdle};
 ghost use Rattle.fl_transport.specs.Inbox.{IsUnread};
 ghost use Rattle.fl_workers.specs.Room.{HasRoomFor, HasRowFor};
 
@@ -29,7 +34,16 @@ use std::thread::{Promise, PromisedHandle, Scope, Threads};
 
 /// What the reader and the workers of a session share.
 #[derive(Drop)]
-pub struct WorkerPool<'a, 'w, L: BoardName, N: WriterName, R: Wait, W: Write, G, J: Journal> {
+pub(crate) struct WorkerPool<
+    'a,
+    'w,
+    L: BoardName,
+    N: WriterName,
+    R: Wait,
+    W: Write,
+    G,
+    J: Journal,
+> {
     /// The right to start threads and to wait.
     pub rt: &'a R,
     /// The hook that is called for each order and reply.
@@ -46,7 +60,7 @@ pub struct WorkerPool<'a, 'w, L: BoardName, N: WriterName, R: Wait, W: Write, G,
 
 /// Whose seat comes back, and with which end, as it was.
 #[derive(Drop)]
-pub struct AtSeat {
+pub(crate) struct AtSeat {
     /// Whose seat.
     pub worker: u32,
     /// The end, as it was.
@@ -54,18 +68,18 @@ pub struct AtSeat {
 }
 
 impl<L: BoardName, N: WriterName> Promise<Worked<Seat<L>, N>> for AtSeat {
-    ghost use Rattle.fl_pool.specs.Working.{HasComeBack};
+    ghost use Rattle.fl_serve.specs.Inside.Working.{HasComeBack};
 
     ghost kept_by = { λ p r. HasComeBack L.rules p.worker p.end.value r.post.seat r.post.own r.end
         r.failures.refused r.failures.lost };
 }
 
 /// A worker that was started.
-pub type Thread<L, N> = PromisedHandle<Worked<Seat<L>, N>, AtSeat>;
+pub(crate) type Thread<L, N> = PromisedHandle<Worked<Seat<L>, N>, AtSeat>;
 
 /// What the workers gave back.
 #[derive(Drop)]
-pub struct Back<L: BoardName, N: WriterName> {
+pub(crate) struct Back<L: BoardName, N: WriterName> {
     /// Their seats, in the order of workers.
     pub seats: Vec<Seat<L>>,
     /// What they gave replies to be sent through, in the same order.
@@ -78,7 +92,7 @@ pub struct Back<L: BoardName, N: WriterName> {
 
 impl<L: BoardName, N: WriterName> Back<L, N> {
     /// Nothing came back yet, and there is room for all that these workers give back, and for one appender more.
-    pub fn with_room(alloc: Global, workers: u32) -> Result<Back<L, N>, NoMemory>
+    pub(crate) fn with_room(alloc: Global, workers: u32) -> Result<Back<L, N>, NoMemory>
         ensures none { IfOk result (λ back. (back.seats.items ≡ []) × (back.appenders.items ≡ [])
             × (back.ends.items ≡ [])) }
         ensures room { IfOk result (λ back. (workers ≤ vec_capacity back.seats)
@@ -96,7 +110,7 @@ impl<L: BoardName, N: WriterName> Back<L, N> {
 
 /// What each worker gets, and room for their threads and for what they give back.
 #[derive(Drop)]
-pub struct Posts<L: BoardName, N: WriterName> {
+pub(crate) struct Posts<L: BoardName, N: WriterName> {
     /// Where each works.
     pub posts: Vec<Post<Seat<L>, N>>,
     /// An end of the intake for each.
@@ -127,7 +141,7 @@ impl<
     /// Runs a session: starts a worker at each post, begins, reads until the session ends, closes the intake, and joins
     /// the workers. If a worker can't be started nothing is read, and the session doesn't begin. `own` is what the
     /// session's own answers are given to be sent through.
-    pub fn run<I: Read>(
+    pub(crate) fn run<I: Read>(
         &self,
         r: &mut I,
         inbox: Inbox,
@@ -427,7 +441,7 @@ fn joined<L: BoardName, N: WriterName, R: Threads>(
 
 /// Orders that no worker took are handed in, or looked for, at the last seat, and answered in its worker's name. Tells
 /// what went wrong with them.
-pub fn handed_in<
+pub(crate) fn handed_in<
     L: BoardName,
     N: WriterName,
     P: Wait + Drop,

@@ -1,9 +1,9 @@
 use Rattle.std.proofs.Common.{rules, ◌≡◌, ◌∙◌}
 use Rattle.fl_board.specs.Seats.{Place}
 use Rattle.fl_intake.specs.Ends.{TakeSide}
-use Rattle.fl_pool.specs.Working.{IsFresh}
-use Rattle.fl_pool.proofs.WorkingLemmas.{all_pushed, first_and_rest, moves, none_back, one_back}
-use Rattle.fl_pool.proofs.pool.joined.Goals as goal
+use Rattle.fl_serve.specs.Inside.Working.{IsFresh}
+use Rattle.fl_serve.proofs.WorkingLemmas.{all_pushed, first_and_rest, moves, none_back, one_back}
+use Rattle.fl_serve.proofs.pool.joined.Goals as goal
 
 pub loop-thread-init : goal.loop-thread-init
 loop-thread-init g c = (

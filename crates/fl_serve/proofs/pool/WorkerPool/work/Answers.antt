@@ -1,8 +1,8 @@
 use Rattle.std.proofs.Common.{sym, subst, ◌∙◌}
 use Rattle.fl_desk.specs.Answered.{IsAnsweredAfter}
-use Rattle.fl_pool.specs.Working.{standing_at}
+use Rattle.fl_serve.specs.Inside.Working.{standing_at}
 use Rattle.fl_workers.specs.Worked.{HasDone}
-use Rattle.fl_pool.proofs.pool.WorkerPool.work.Goals as goal
+use Rattle.fl_serve.proofs.pool.WorkerPool.work.Goals as goal
 
 pub worker_loop-requires-clause-end : goal.worker_loop-requires-clause-end
 worker_loop-requires-clause-end g c = c.requires.end

@@ -1,5 +1,5 @@
-use Rattle.fl_pool.proofs.WorkingLemmas.{rest_done}
-use Rattle.fl_pool.proofs.pool.handed_in.Goals as goal
+use Rattle.fl_serve.proofs.WorkingLemmas.{rest_done}
+use Rattle.fl_serve.proofs.pool.handed_in.Goals as goal
 
 pub returns-clause-did : goal.returns-clause-did
 returns-clause-did g c = λ orders any lost so_far.

@@ -1,5 +1,5 @@
 -- What the workers of a session did together.
-use Rattle.std.specs.Prelude.{◌≡◌, ◌≢◌, ℕ, Bool, false, List, [], ◌∷◌, All, Some, length, map, ◌||◌}
+use Rattle.std.specs.Prelude.{◌≡◌, ◌≢◌, ℕ, Bool, false, List, [], All, Some, length, map}
 use Rattle.std.specs.Prelude.{sum_by}
 use Rattle.std.specs.Io.KnownBytes.{Keeps}
 use Rattle.atomic_table.specs.Seated.{TableId}
@@ -9,6 +9,7 @@ use Rattle.fl_desk.specs.Asked.{Orders}
 use Rattle.fl_intake.specs.Ends.{TakeSide, weight_taken}
 use Rattle.fl_intake.specs.Often.{Weight}
 use Rattle.fl_log.specs.Appended.{Appended}
+use Rattle.fl_serve.specs.Serve.{some_is}
 use Rattle.fl_transport.specs.declared.fault.Fault.TheVariants.{NoMemory}
 use Rattle.fl_waiting.specs.declared.rules.Rules.{Rules}
 use Rattle.fl_workers.specs.Received.{HasReceived, Reception}
@@ -69,11 +70,6 @@ pub record Work : Type 0 where
 -- it worked on these orders, from the start
 abbrev pub IsDone : Rules → Work → Type 0
 IsDone rules work = HasWorkedOn rules work.orders work.place work.sent work.any work.lost
-
--- one of these is so
-abbrev pub some_is : List Bool → Bool
-some_is [] = false
-some_is (b ∷ bs) = b || some_is bs
 
 -- What weighs this was, each order as often, worked on at these places, whose workers gave this to be sent. `any` is
 -- true exactly if some order was refused, and `lost` if what is owed for some was lost.
