@@ -255,7 +255,7 @@ impl<L: BoardName, R: Wait + Drop, J: Journal> Board<L, R, J> {
     /// Stores all its lines: a worker has no order at hand. No line, lock, count or seat changes.
     pub fn pause<W: Wait>(&self, rt: &W) {
         let mut shared = self.shared.lock(rt);
-        shared.pause();
+        let _ = shared.record.desk.store_all();
     }
 
     /// The journal of its lines, which are the history of all that was handed in, if no seat is missing. It is

@@ -1,12 +1,11 @@
 //! What is recorded under a board's lock.
 
 ghost use Rattle.std.specs.Prelude.{◌≡◌, ◌<◌, ◌≤◌, ◌^◌, ◌+◌, ◌++◌, ◌∷◌, [], Err, Some, length};
-ghost use Rattle.std.specs.Prelude.{IfOk, IfSome, OnOk, OnErr, MatchResult, IsTrue, List};
+ghost use Rattle.std.specs.Prelude.{IfOk, IfSome, OnOk, OnErr, MatchResult, List};
 ghost use Rattle.fl_board.specs.Inside.Asks.{history_of};
 ghost use Rattle.fl_board.specs.Shown.{AreHandedIn, IsHandedIn};
 ghost use Rattle.fl_core.specs.Tolds.{HasRoom};
 ghost use Rattle.fl_desk.specs.Legal.{IsLegal, LeavesLawful, orders_asked};
-ghost use Rattle.fl_desk.specs.Stored.{IsStored};
 ghost use Rattle.fl_log.specs.Longer.{IsLonger};
 ghost use Rattle.fl_log.specs.Asks.{ask_of};
 ghost use Rattle.fl_log.specs.declared.ask.Ask.{Ask as Handed};
@@ -169,22 +168,6 @@ impl<L: BoardName, R: Wait + Drop, J: Journal> Record<L, R, J> {
         ensures shown { IfSome self.new.shown (λ shown. shown ≡ self.new.asks) }
     {
         self.writer.publish();
-    }
-
-    /// Stores the desk's lines if they must be stored before replies leave, and says whether that is so.
-    #[tactic(auto, using(crate::proofs::Storing::same_stored))]
-    pub(crate) fn store_if_due(&mut self) -> bool
-        ensures same { self.new ≡ self.old }
-        ensures stored { IsTrue result → IsStored J.stored (history_of L.rules self.new.asks) }
-    {
-        self.desk.store_if_due()
-    }
-
-    /// Stores all lines of the desk: no order is at hand.
-    pub(crate) fn pause(&mut self)
-        ensures { self.new ≡ self.old }
-    {
-        let _ = self.desk.store_all();
     }
 
     /// The desk's journal, for the whole of the ledger.

@@ -166,17 +166,10 @@ impl<L: BoardName, R: Wait + Drop, J: Journal> Shared<L, R, J> {
     fn store_waiting(&mut self) -> bool
         ensures { self.new ≡ self.old }
     {
-        if !self.stored.is(&self.record.all) && self.record.store_if_due() {
+        if !self.stored.is(&self.record.all) && self.record.desk.store_if_due() {
             self.stored = self.record.all.again();
         }
         self.stored.is(&self.record.all)
-    }
-
-    /// Stores all lines of the desk: no order is at hand.
-    pub(crate) fn pause(&mut self)
-        ensures { self.new ≡ self.old }
-    {
-        self.record.pause();
     }
 
     /// The desk's journal, for the whole of the ledger.

@@ -12,7 +12,7 @@
 //! - that `audit`, `hear_first` and `hear_cut` read on after a bad line, or the last that is wanted (`tests/commands/check.py`),
 //!   nor what they say of a reader whose bytes aren't known;
 //! - that they tell a failed read or `NoMemory` only if there was one: `tests/commands/pieces.py` and
-//!   `tests/commands/allocations.sh` see that.
+//!   `tests/commands/allocations.py` see that.
 #![tactic(auto)]
 
 mod asking;

@@ -366,13 +366,14 @@ all_recorded lines workers takers rules by streams start it as_many same begun l
 }
 
 -- by its own names
-pub recorded_from : {K : Type 0} (lines : K → List Line) (workers : ℕ) (rules by : Rules) (left left_now start held : Option (List ℕ))
-    (held_now : Option (List ℕ)) (it : Recorded K) → rules ≡ by → held ≡ start
-    → IsRecordedBy lines workers by (record { left = left; left_now = left_now; held = start; held_now = held_now }) it
+pub recorded_from : {K : Type 0} (lines : K → List Line) (workers takers : ℕ) (rules by : Rules)
+    (left left_now start held held_now : Option (List ℕ)) (it : Recorded K) → takers ≡ workers → rules ≡ by → held ≡ start
+    → IsRecordedBy lines takers by (record { left = left; left_now = left_now; held = start; held_now = held_now }) it
     → IsRecordedBy lines workers rules (record { left = left; left_now = left_now; held = held; held_now = held_now }) it
-recorded_from lines workers rules by left left_now start held held_now it same begun recorded =
-    subst (λ r. IsRecordedBy lines workers r (record { left = left; left_now = left_now; held = held; held_now = held_now }) it) (sym same)
-    (subst (λ h. IsRecordedBy lines workers by (record { left = left; left_now = left_now; held = h; held_now = held_now }) it) (sym begun) recorded)
+recorded_from lines workers takers rules by left left_now start held held_now it many same begun recorded =
+    subst (λ n. IsRecordedBy lines n rules (record { left = left; left_now = left_now; held = held; held_now = held_now }) it) many
+    (subst (λ r. IsRecordedBy lines takers r (record { left = left; left_now = left_now; held = held; held_now = held_now }) it) (sym same)
+    (subst (λ h. IsRecordedBy lines takers by (record { left = left; left_now = left_now; held = h; held_now = held_now }) it) (sym begun) recorded))
 
 -- all workers came back, of whom there was one for each number
 pub workers_back : (places back : List Place) (workers takers : ℕ)

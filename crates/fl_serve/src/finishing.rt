@@ -16,15 +16,14 @@ ghost use Rattle.fl_serve.specs.Inside.Closing.{HasAll, HasGrown, HasSaidGoodbye
 ghost use Rattle.fl_session.specs.Recorded.{done_of};
 ghost use Rattle.fl_serve.specs.Serve.{IsServedBy};
 
-use crate::pool::{Back, WorkerPool, handed_in};
+use crate::pool::{WorkerPool, handed_in};
+use crate::posts::Back;
 use fl_board::{Board, BoardName, Seat};
 use fl_history::Journal;
 use fl_log::Appender;
 use fl_session::Recorded;
 use fl_transport::{Fault, Response};
-use fl_workers::{
-    Abandoned, Gate, Received, ReplyEntry, ReplyRoom, Returned, SharedSender, WriterName,
-};
+use fl_workers::{Gate, Received, ReplyEntry, ReplyRoom, SharedSender, WriterName};
 use std::alloc::Global;
 use std::io::Write;
 use std::sync::Wait;
@@ -46,12 +45,12 @@ pub(crate) fn unstarted<'w, N: WriterName, W: Write, J: Journal>(
       broken = broken;
     }) (spelled sender.entry.log) }
 {
-    let Abandoned { writer, begun, .. } = sender.abandon();
-    let fault = if begun {
+    let fault = if sender.has_begun() {
         Fault::NoReader
     } else {
         Fault::NoMemory
     };
+    let (writer, _broken) = sender.into_writer();
     (Recorded::nothing(alloc, fault), writer)
 }
 
@@ -140,49 +139,38 @@ pub(crate) fn finish<
         rt, &board, gate, &sender, seats, appenders, replies, left,
     );
     let failures = failures.or(more);
-    let Returned {
-        writer,
-        broken,
-        whole,
-    } = say_goodbye(sender.into_inner(), appenders, own, &goodbye);
+    let (writer, broken, whole) = say_goodbye(sender.into_inner(), appenders, own, &goodbye);
     let known = whole & !(lost | failures.lost);
     let told = Fault::told(fault, broken);
     let recorded = close_board(alloc, board, seats, known, failures.refused, told);
     (recorded, writer)
 }
 
-// Says goodbye, if anything is left to say, and sends all that is collected. The writer comes back, `whole` if the
-// goodbye was given to be sent, and all else by these appenders.
+// Says goodbye, if anything is left to say, and sends all that is collected. The writer comes back, with whether a
+// write failed, and whether the goodbye was given to be sent, and all else by these appenders.
 fn say_goodbye<'w, N: WriterName, W: Write>(
     sender: SharedSender<'w, W, N>,
     appenders: Vec<Appender<N, ReplyEntry>>,
     own: Appender<N, ReplyEntry>,
     goodbye: &Response,
-) -> Returned<'w, W>
+) -> (&'w mut W, bool, bool)
     requires each { length appenders.items + 1 ≡ N.parts }
     requires room { length appenders.items < vec_capacity appenders }
-    ensures same { result.writer.ghost_name ≡ N.writer }
+    ensures same { result.0.ghost_name ≡ N.writer }
     ensures given { HasSaidGoodbye N.start (record {
-      held = W.contents result.writer.now;
+      held = W.contents result.0.now;
       waiting = [];
-      broken = result.broken;
-    }) appenders.items own goodbye.now result.whole }
+      broken = result.1;
+    }) appenders.items own goodbye.now result.2 }
 {
     let mut sender = sender;
     let mut own = own;
     let mut appenders = appenders;
     let said = say(&mut sender, &mut own, goodbye);
     appenders.push_reserved(own);
-    let Returned {
-        writer,
-        broken,
-        whole,
-    } = sender.close(appenders);
-    Returned {
-        writer,
-        broken,
-        whole: whole & said,
-    }
+    let whole = sender.is_by(appenders);
+    let (writer, broken) = sender.into_writer();
+    (writer, broken, whole & said)
 }
 
 // Gives the goodbye to be sent, if there is one, and says whether it could.

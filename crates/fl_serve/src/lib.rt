@@ -13,13 +13,13 @@
 
 mod finishing;
 mod pool;
-mod ready;
-mod rooms;
+mod posts;
 mod serving;
+mod stock;
 
 pub use fl_intake::{Closed, Intake, Job, MOST_JOBS, NotAll, PutEnd, TakeEnd};
 pub use fl_session::{
     Broken, Done, Ended, Fault, Outbox, Recorded, record_session, run_one, run_session,
 };
-pub use fl_workers::{Counter, Gate, OpenGate, SharedSender, Worked, WriterName, worker_loop};
+pub use fl_workers::{Counter, Gate, OpenGate, SharedSender, WriterName, worker_loop};
 pub use serving::{Staff, record_with_workers, serve};

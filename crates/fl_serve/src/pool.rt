@@ -5,7 +5,7 @@
 //! (`quiet`). Contracts let through a `run` that begins earlier, later or never, that says `NoMemory` at once, or that
 //! starts no worker and leaves all orders to `handed_in`. `fl_serve_tests` and `tests/serve/failing.py` refuse these.
 
-ghost use Rattle.std.specs.Prelude.{◌≡◌, ◌≤◌, ◌<◌, ◌+◌, ◌||◌, ℕ, Bool, [], All, IfOk, IfSome, true, false, length, map};
+ghost use Rattle.std.specs.Prelude.{◌≡◌, ◌≤◌, ◌<◌, ◌+◌, ◌||◌, ℕ, Bool, [], All, IfSome, true, false, length, map};
 ghost use Rattle.std.specs.Prelude.{sum_by, vec_capacity};
 ghost use Rattle.fl_intake.specs.Often.{Weight};
 ghost use Rattle.fl_intake.specs.Ends.{weight_taken};
@@ -13,19 +13,18 @@ ghost use Rattle.fl_serve.specs.Inside.Working.{HasComeBack, HasRun, HaveDone, I
 ghost use Rattle.fl_transport.specs.Inbox.{IsUnread};
 ghost use Rattle.fl_workers.specs.Room.{HasRoomFor, HasBatchFor};
 
+use crate::posts::{Back, Posts};
 use core::thread::Stack;
 use fl_board::{Board, BoardName, Seat};
 use fl_history::Journal;
 use fl_intake::{Intake, Job, PutEnd, TakeEnd};
 use fl_log::Appender;
-use fl_order::NoMemory;
 use fl_transport::{Fault, Inbox, Response};
 use fl_workers::laws::orders_are_worked_on_in_turn;
 use fl_workers::{
-    BatchRoom, Failures, Gate, Post, Received, ReplyEntry, ReplyRoom, SharedSender, Worked,
-    WriterName, handle_all, receive_all, worker_loop,
+    BatchRoom, Failures, Gate, Post, Received, ReplyEntry, ReplyRoom, SharedSender, WriterName,
+    handle_all, receive_all, worker_loop,
 };
-use std::alloc::Global;
 use std::io::{Read, Write};
 use std::snapshot::Snapshot;
 use std::sync::{Mutex, Wait};
@@ -67,66 +66,17 @@ pub(crate) struct AtSeat {
     pub end: Snapshot<TakeEnd>,
 }
 
-impl<L: BoardName, N: WriterName> Promise<Worked<Seat<L>, N>> for AtSeat {
+impl<L: BoardName, N: WriterName> Promise<Worked<L, N>> for AtSeat {
     ghost use Rattle.fl_serve.specs.Inside.Working.{HasComeBack};
 
-    ghost kept_by = { λ p r. HasComeBack L.rules p.worker p.end.value r.post.seat r.post.own r.end
-        r.failures.refused r.failures.lost };
+    ghost kept_by = { λ p r. HasComeBack L.rules p.worker p.end.value r.0.seat r.0.own r.1 r.2.refused r.2.lost };
 }
+
+/// What a worker gives back: its post, its end of the intake, and what went wrong with its orders.
+type Worked<L, N> = (Post<Seat<L>, N>, TakeEnd, Failures);
 
 /// A worker that was started.
-pub(crate) type Thread<L, N> = PromisedHandle<Worked<Seat<L>, N>, AtSeat>;
-
-/// What the workers gave back.
-#[derive(Drop)]
-pub(crate) struct Back<L: BoardName, N: WriterName> {
-    /// Their seats, in the order of workers.
-    pub seats: Vec<Seat<L>>,
-    /// What they gave replies to be sent through, in the same order.
-    pub appenders: Vec<Appender<N, ReplyEntry>>,
-    /// Their ends of the intake, in the same order.
-    pub ends: Vec<TakeEnd>,
-    /// What went wrong with their orders.
-    pub failures: Failures,
-}
-
-impl<L: BoardName, N: WriterName> Back<L, N> {
-    /// Nothing came back yet, and there is room for all that these workers give back, and for one appender more.
-    pub(crate) fn with_room(alloc: Global, workers: u32) -> Result<Back<L, N>, NoMemory>
-        ensures none { IfOk result (λ back. (back.seats.items ≡ []) × (back.appenders.items ≡ [])
-            × (back.ends.items ≡ [])) }
-        ensures room { IfOk result (λ back. (workers ≤ vec_capacity back.seats)
-            × (workers < vec_capacity back.appenders) × (workers ≤ vec_capacity back.ends)) }
-    {
-        let count = workers as usize;
-        Ok(Back {
-            seats: Vec::with_capacity(alloc, count)?,
-            appenders: Vec::with_capacity(alloc, count + 1)?,
-            ends: Vec::with_capacity(alloc, count)?,
-            failures: Failures::none(),
-        })
-    }
-}
-
-/// What each worker gets, and room for their threads and for what they give back.
-#[derive(Drop)]
-pub(crate) struct Posts<L: BoardName, N: WriterName> {
-    /// Where each works.
-    pub posts: Vec<Post<Seat<L>, N>>,
-    /// An end of the intake for each.
-    pub ends: Vec<TakeEnd>,
-    /// Room for the orders that each takes at once, and for the replies to them.
-    pub rooms: Vec<BatchRoom>,
-    /// Room for those that are started.
-    pub threads: Vec<Thread<L, N>>,
-    /// Room for what comes back.
-    pub back: Back<L, N>,
-    ghost idle: { All (λ post. IsIdle post.seat post.own) posts.items },
-    ghost none: { (threads.items ≡ []) × (back.seats.items ≡ []) × (back.appenders.items ≡ [])
-        × (back.ends.items ≡ []) },
-    ghost room: { (length posts.items ≤ vec_capacity threads) × (length posts.items ≤ vec_capacity back.seats)
-        × (length posts.items < vec_capacity back.appenders) × (length posts.items ≤ vec_capacity back.ends) },
-}
+pub(crate) type Thread<L, N> = PromisedHandle<Worked<L, N>, AtSeat>;
 
 impl<
     'a,
@@ -355,35 +305,38 @@ impl<
             .spawn_scoped_with(
                 scope,
                 at,
-                move || -> Worked<Seat<L>, N>
+                move || -> Worked<L, N>
                     requires idle { IsIdle post.seat post.own }
                     requires end { end.of ≡ self.now.intake }
                     requires room { HasBatchFor (L.rules.parked + 1) room }
-                    ensures { HasComeBack L.rules post.seat.worker end result.post.seat result.post.own result.end
-                        result.failures.refused result.failures.lost }
+                    ensures { HasComeBack L.rules post.seat.worker end result.0.seat result.0.own result.1
+                        result.2.refused result.2.lost }
                 { self.work(post, end, room) },
             )
             .ok()
     }
 
     // What a worker does.
-    fn work(&self, post: Post<Seat<L>, N>, end: TakeEnd, room: BatchRoom) -> Worked<Seat<L>, N>
+    fn work(&self, post: Post<Seat<L>, N>, end: TakeEnd, room: BatchRoom) -> Worked<L, N>
         requires idle { IsIdle post.seat post.own }
         requires end { end.of ≡ self.now.intake }
         requires room { HasBatchFor (L.rules.parked + 1) room }
-        ensures { HasComeBack L.rules post.seat.worker end result.post.seat result.post.own result.end
-            result.failures.refused result.failures.lost }
+        ensures { HasComeBack L.rules post.seat.worker end result.0.seat result.0.own result.1
+            result.2.refused result.2.lost }
     {
-        worker_loop(
+        let mut post = post;
+        let mut end = end;
+        let failures = worker_loop(
             self.rt,
             &self.board,
             self.gate,
             &self.intake,
             &self.sender,
-            post,
-            end,
+            &mut post,
+            &mut end,
             room,
-        )
+        );
+        (post, end, failures)
     }
 }
 
@@ -425,11 +378,7 @@ fn joined<L: BoardName, N: WriterName, R: Threads>(
     let mut back = back;
     back.failures = Failures::none();
     for thread in threads {
-        let Worked {
-            post,
-            end,
-            failures,
-        } = thread.join(rt);
+        let (post, end, failures) = thread.join(rt);
         let Post { seat, own } = post;
         back.seats.push_reserved(seat);
         back.appenders.push_reserved(own);

@@ -1,25 +1,32 @@
 //! A whole session of the FUSE protocol with workers, over any reader and any writer.
 
-ghost use Rattle.std.specs.Prelude.{◌≡◌, ◌≤◌, ◌<◌, ◌+◌, ◌⊎◌, [], All, Some};
+ghost use Rattle.std.specs.Prelude.{◌≡◌, ◌≤◌, ◌<◌, ◌+◌, ◌⊎◌, [], All, Some, false, map};
 ghost use Rattle.std.specs.Io.KnownBytes.{Keeps};
+ghost use Rattle.std.specs.List.{range_with_len};
 ghost use Rattle.fl_desk.specs.Legal.{IsLegal, LeavesLawful};
+ghost use Rattle.fl_serve.specs.Inside.Working.{IsFresh};
 ghost use Rattle.fl_serve.specs.Serve.{IsRecordedBy, IsServedBy};
+ghost use Rattle.fl_transport.specs.Inbox.{IsUnread};
+ghost use Rattle.fl_workers.specs.Room.{HasRoomFor, HasBatchFor};
 
-use crate::ready::{Ready, run_ready};
-use crate::rooms::Rooms;
+use crate::finishing::{finish, unstarted};
+use crate::pool::WorkerPool;
+use crate::posts::Posts;
+use crate::stock::{Stock, opened};
 use fl_board::{BoardName, OpenFault};
 use fl_core::Rules;
 use fl_desk::laws::a_legal_history_goes_on_by_orders;
 use fl_history::{Journal, Lines};
-use fl_log::{Ask, FreshLog};
+use fl_intake::PutEnd;
+use fl_log::{Appender, Ask, FreshLog};
 use fl_session::{Done, Recorded};
-use fl_transport::Fault;
-use fl_workers::{Gate, ReplyEntry, WriterName};
+use fl_transport::{Fault, Inbox};
+use fl_workers::{Gate, ReplyEntry, ReplyRoom, SharedSender, WriterName};
 use std::alloc::Global;
 use std::io::{Read, Write};
 use std::marker::Brand;
-use std::sync::Wait;
 use std::sync::ledger::Blank;
+use std::sync::{Mutex, Wait};
 use std::thread::Threads;
 
 // Bytes of a worker's stack.
@@ -161,7 +168,7 @@ fn run_at<
       held_now = W.contents result.1.now;
     }) result.0 }
 {
-    let rooms = match Rooms::<L, N, &R, J>::new(
+    let (board, seats, stock) = match opened::<L, N, &R, J>(
         alloc,
         rt,
         journal,
@@ -170,11 +177,73 @@ fn run_at<
         staff.workers,
         staff.rules,
     ) {
-        Ok(rooms) => rooms,
+        Ok(made) => made,
         Err(fault) => return (Recorded::nothing(alloc, unopened(fault)), w),
     };
-    let ready = Ready::new(rt, rooms, sending, given, w, staff.workers);
-    run_ready(alloc, gate, staff, r, ready)
+    let Stock {
+        left,
+        inbox,
+        replies,
+        intake,
+        put,
+        posts,
+    } = stock;
+    let (sender, mut rest) = SharedSender::<'w, W, N>::new(sending, given, replies, w);
+    let posts = posts.at(seats, &sender, &mut rest);
+    let own = sender.appender(&mut rest, staff.workers);
+    let pool = WorkerPool {
+        rt,
+        gate,
+        stack: staff.stack,
+        board,
+        intake,
+        sender: Mutex::new(sender),
+    };
+    run_pool(alloc, pool, r, inbox, put, posts, own, left)
+}
+
+// Runs the workers of a session, and ends it once they came back.
+fn run_pool<
+    'w,
+    L: BoardName + Send + Sync,
+    N: WriterName + Send + Sync,
+    R: Threads + Wait + Sync,
+    I: Read,
+    W: Write + Send + Drop,
+    G: Gate + Sync,
+    J: Journal + Send + Drop,
+>(
+    alloc: Global,
+    pool: WorkerPool<'_, 'w, L, N, R, W, G, J>,
+    r: &mut I,
+    inbox: Inbox,
+    put: PutEnd,
+    posts: Posts<L, N>,
+    own: Appender<N, ReplyEntry>,
+    left: ReplyRoom,
+) -> (Recorded<J>, &'w mut W)
+    requires parts { (L.workers ≡ L.parts) × (put.takers + 1 ≡ N.parts) × (0 < put.takers) }
+    requires seats { map (λ post. post.seat.worker) posts.posts.items ≡ range_with_len 0 put.takers }
+    requires ends { All (IsFresh pool.intake) posts.ends.items }
+    requires put { (put.of ≡ pool.intake) × (put.closed ≡ false) × (put.put ≡ []) }
+    requires unread { IsUnread inbox }
+    requires left { HasRoomFor (L.rules.parked + 1) left }
+    requires batches { All (HasBatchFor (L.rules.parked + 1)) posts.rooms.items }
+    requires own { own ≡ record { author = put.takers; count = 0; own = [] } }
+    ensures writer { result.1.ghost_name ≡ N.writer }
+    ensures recorded { IsRecordedBy J.lines put.takers L.rules (record {
+      left = I.remaining r.old;
+      left_now = I.remaining r.new;
+      held = N.start;
+      held_now = W.contents result.1.now;
+    }) result.0 }
+{
+    let (back, received) = pool.run(r, inbox, put, posts, own);
+    if received.fault == Some(Fault::NoMemory) {
+        let WorkerPool { sender, .. } = pool;
+        return unstarted(alloc, sender.into_inner());
+    }
+    finish(alloc, pool, back, received, left)
 }
 
 // Why a session has no board.

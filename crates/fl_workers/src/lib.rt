@@ -7,8 +7,8 @@
 //! - a worker that ends at once, takes or hands in orders one by one, keeps replies until the end, calls no gate,
 //!   pauses never or always, or waits for ever; and one that gives the counter nothing to send before it waits;
 //! - a `new` of room that is always refused;
-//! - a `SharedSender` that is broken at once, collects nothing, or closes as if it weren't whole, and a `receive_all`
-//!   that sends late or never what it collected.
+//! - a `SharedSender` that is broken at once, collects nothing, or says that what it was given isn't by those who gave
+//!   it, and a `receive_all` that sends late or never what it collected.
 //! `fl_workers_tests`, `fl_serve_tests` and `tests/serve/workers.py` refuse these; what the counter sends is seen by
 //! `tests/serve/traces.py` alone.
 #![tactic(auto)]
@@ -24,5 +24,5 @@ pub use entry::{Reply, ReplyEntry};
 pub use fl_desk::{Counter, Gate, OpenGate};
 pub use receiver::{Received, receive_all};
 pub use room::{BatchRoom, ReplyRoom};
-pub use sender::{Abandoned, Returned, SharedSender, WriterName};
-pub use worker::{Failures, Post, Worked, handle_all, worker_loop};
+pub use sender::{SharedSender, WriterName};
+pub use worker::{Failures, Post, handle_all, worker_loop};

@@ -57,28 +57,6 @@ impl<'a, W: Write, N: WriterName> Model for SharedSender<'a, W, N> {
         × (s.begun ≡ false → (W.contents (writer_of s.batch.out).now ≡ N.start) × (s.batch.replies ≡ [])) };
 }
 
-/// A writer that comes back.
-#[derive(Drop)]
-pub struct Returned<'a, W> {
-    /// The writer.
-    pub writer: &'a mut W,
-    /// A write failed.
-    pub broken: bool,
-    /// All that was given to be sent was given through the appenders that were handed back.
-    pub whole: bool,
-}
-
-/// A writer that comes back from a session that wasn't served to its end.
-#[derive(Drop)]
-pub struct Abandoned<'a, W> {
-    /// The writer.
-    pub writer: &'a mut W,
-    /// A write failed.
-    pub broken: bool,
-    /// The session had begun.
-    pub begun: bool,
-}
-
 impl<'a, W: Write, N: WriterName> SharedSender<'a, W, N> {
     /// Nothing was sent yet, and the session hasn't begun. Beside it comes what appenders are cut from.
     pub fn new(
@@ -167,65 +145,44 @@ impl<'a, W: Write, N: WriterName> SharedSender<'a, W, N> {
         }
     }
 
-    /// Sends what is collected, and gives the writer back. It says whether a write failed, and whether all that was
-    /// given to be sent was given through these appenders, of which none is missing.
-    pub fn close(self, appenders: Vec<Appender<N, ReplyEntry>>) -> Returned<'a, W>
+    /// Whether the session has begun.
+    pub fn has_begun(&self) -> bool
+        ensures { result ≡ self.now.begun }
+    {
+        self.begun
+    }
+
+    /// Whether all that was given to be sent was given through these appenders, of which none is missing.
+    pub fn is_by(&mut self, appenders: Vec<Appender<N, ReplyEntry>>) -> bool
         requires all { length appenders.items ≡ N.parts }
-        ensures same { result.writer.ghost_name ≡ N.writer }
+        ensures same { self.new ≡ self.old }
+        ensures each { result ≡ true → All (HasAll (λ e. e.author) self.old.log) appenders.items }
+        ensures total { result ≡ true → length self.old.log ≡ sum_by (λ own. own.count) appenders.items }
+    {
+        self.log.is_by(appenders)
+    }
+
+    /// Sends what is collected, gives the writer back, and says whether a write failed. If the session hadn't begun,
+    /// the writer holds what it held at the start.
+    pub fn into_writer(self) -> (&'a mut W, bool)
+        ensures same { result.0.ghost_name ≡ N.writer }
         ensures given { IsGiven N.start (record {
-          held = W.contents result.writer.now;
+          held = W.contents result.0.now;
           waiting = [];
-          broken = result.broken;
+          broken = result.1;
         }) (spelled self.entry.log) }
-        ensures each { result.whole ≡ true → All (HasAll (λ e. e.author) self.entry.log) appenders.items }
-        ensures total { result.whole ≡ true
-            → length self.entry.log ≡ sum_by (λ own. own.count) appenders.items }
+        ensures unbegun { self.entry.begun ≡ false → W.contents result.0.now ≡ N.start }
     {
         let mut sender = self;
         sender.flush();
         let SharedSender {
             batch,
             begun: _,
-            mut log,
-        } = sender;
-        let whole = log.is_by(appenders);
-        let ReplyBatch { replies, out } = batch;
-        // Here, since the proof finds no more what the writer holds if something is dropped behind it.
-        drop(replies);
-        let (writer, broken) = out.into_parts();
-        Returned {
-            writer,
-            broken,
-            whole,
-        }
-    }
-
-    /// Sends what is collected, and gives the writer back with no word on who gave what. If the session hadn't begun,
-    /// the writer holds what it held at the start.
-    pub fn abandon(self) -> Abandoned<'a, W>
-        ensures same { result.writer.ghost_name ≡ N.writer }
-        ensures given { IsGiven N.start (record {
-          held = W.contents result.writer.now;
-          waiting = [];
-          broken = result.broken;
-        }) (spelled self.entry.log) }
-        ensures begun { result.begun ≡ self.entry.begun }
-        ensures unbegun { result.begun ≡ false → W.contents result.writer.now ≡ N.start }
-    {
-        let mut sender = self;
-        sender.flush();
-        let SharedSender {
-            batch,
-            begun,
             log: _,
         } = sender;
         let ReplyBatch { replies, out } = batch;
+        // Here, since the proof finds no more what the writer holds if something is dropped behind it.
         drop(replies);
-        let (writer, broken) = out.into_parts();
-        Abandoned {
-            writer,
-            broken,
-            begun,
-        }
+        out.into_parts()
     }
 }

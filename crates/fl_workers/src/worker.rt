@@ -62,56 +62,39 @@ impl Failures {
     }
 }
 
-/// What a worker gives back.
-#[derive(Drop)]
-pub struct Worked<S, N: WriterName> {
-    /// Its seat, and what it gave replies to be sent through.
-    pub post: Post<S, N>,
-    /// Its end of the intake.
-    pub end: TakeEnd,
-    /// What went wrong with its orders.
-    pub failures: Failures,
-}
-
-/// Takes batches of orders until the intake is closed and empty, and handles each as `handle_all` does. Seat and end come
-/// back. Before it waits for an order it sends what is collected, and tells the counter.
+/// Takes batches of orders until the intake is closed and empty, and handles each as `handle_all` does. Before it waits
+/// for an order it sends what is collected, and tells the counter. It says what went wrong with its orders.
 pub fn worker_loop<R: Wait, C: Counter, G: Gate, W: Write, N: WriterName>(
     rt: &R,
     counter: &C,
     gate: &G,
     intake: &Intake,
     sender: &Mutex<SharedSender<'_, W, N>>,
-    post: Post<C::Seat, N>,
-    end: TakeEnd,
+    post: &mut Post<C::Seat, N>,
+    end: &mut TakeEnd,
     room: BatchRoom,
-) -> Worked<C::Seat, N>
-    requires end { end.of ≡ intake.now }
+) -> Failures
+    requires end { end.old.of ≡ intake.now }
     requires room { HasBatchFor C.most_tolds room }
-    ensures end { result.end.of ≡ intake.now }
-    ensures did { HasDone C.shows end.taken result.end.taken
-        (standing C.worker C.count C.answered C.seen post.seat post.own)
-        (standing C.worker C.count C.answered C.seen result.post.seat result.post.own)
-        result.failures.refused result.failures.lost }
+    ensures end { end.new.of ≡ intake.now }
+    ensures did { HasDone C.shows end.old.taken end.new.taken
+        (standing C.worker C.count C.answered C.seen post.old.seat post.old.own)
+        (standing C.worker C.count C.answered C.seen post.new.seat post.new.own)
+        result.refused result.lost }
 {
-    let mut post = post;
-    let mut end = end;
     let BatchRoom {
         mut batch,
         mut replies,
     } = room;
     let mut failures = Failures::none();
     for _ in rt.forever() {
-        if !next_batch(rt, counter, intake, &mut end, sender, &mut batch) {
+        if !next_batch(rt, counter, intake, end, sender, &mut batch) {
             break;
         }
-        let more = handle_all(rt, counter, gate, sender, &mut post, &mut replies, &batch);
+        let more = handle_all(rt, counter, gate, sender, post, &mut replies, &batch);
         failures = failures.or(more);
     }
-    Worked {
-        post,
-        end,
-        failures,
-    }
+    failures
 }
 
 /// Handles orders at one seat, one after another: it looks for those that only read, and hands in all others, and those

@@ -1,4 +1,4 @@
-//! A trace that is read and printed. `tests/commands/allocations.sh` runs this with each of its allocations refused,
+//! A trace that is read and printed. `tests/commands/allocations.py` runs this with each of its allocations refused,
 //! one in each run. So what says that there is no memory has to do its work when it is tried again.
 
 use super::{LINES, TRACE, count_is, holds};

@@ -4,7 +4,7 @@ ghost use Rattle.std.specs.Prelude.{◌≡◌, ◌<◌, [], false, length, Some}
 
 use fl_log::{Appender, FreshLog};
 use fl_transport::ReplyBuffer;
-use fl_workers::{ReplyEntry, Returned, SharedSender, WriterName};
+use fl_workers::{ReplyEntry, SharedSender, WriterName};
 use std::alloc::Global;
 use std::process::Abort;
 use std::sync::Mutex;
@@ -59,11 +59,9 @@ pub(super) fn closed<'w, N: WriterName>(
 ) -> &'w mut Vec<u8>
     requires { length appenders.items ≡ N.parts }
 {
-    let Returned {
-        writer,
-        broken,
-        whole,
-    } = sender.into_inner().close(appenders);
+    let mut sender = sender.into_inner();
+    let whole = sender.is_by(appenders);
+    let (writer, broken) = sender.into_writer();
     assert!(rt; whole && !broken);
     writer
 }

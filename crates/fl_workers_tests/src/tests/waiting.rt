@@ -9,9 +9,7 @@ use super::tally::{Seat, WILLING};
 use fl_core::Rules;
 use fl_intake::{Intake, Job, PutEnd, TakeEnd};
 use fl_log::{Appender, FreshLog};
-use fl_workers::{
-    BatchRoom, OpenGate, Post, ReplyEntry, SharedSender, Worked, WriterName, worker_loop,
-};
+use fl_workers::{BatchRoom, OpenGate, Post, ReplyEntry, SharedSender, WriterName, worker_loop};
 use std::alloc::Global;
 use std::marker::Brand;
 use std::process::Abort;
@@ -78,15 +76,10 @@ fn taken_by<'w, N: WriterName, R: Wait + Abort>(
 {
     let room = BatchRoom::new(alloc, Rules::standard()).expect(rt, "memory");
     let seat = Seat::new(rt, alloc, own.author());
-    let Worked { post, failures, .. } = worker_loop(
-        rt,
-        &WILLING,
-        &OpenGate,
-        intake,
-        sender,
-        Post { seat, own },
-        end,
-        room,
+    let mut post = Post { seat, own };
+    let mut end = end;
+    let failures = worker_loop(
+        rt, &WILLING, &OpenGate, intake, sender, &mut post, &mut end, room,
     );
     let Post { seat, own } = post;
     (seat.came(failures), own)

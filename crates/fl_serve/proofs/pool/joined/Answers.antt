@@ -32,11 +32,11 @@ loop-thread-preserved g c =
       search rules,
       search rules,
       search rules,
-      moves (λ (s : Place). s.worker) (λ t. t.promise.worker) _ _ came.post.seat _ _ c.in-Some.thread _ i.4 seats steps
+      moves (λ (s : Place). s.worker) (λ t. t.promise.worker) _ _ came.0.seat _ _ c.in-Some.thread _ i.4 seats steps
           kept.own,
       thread.1,
-      all_pushed (λ (e : TakeSide). e.of ≡ c.args.intake.now) c.loop-thread.back.ends.items _ came.end ends i.6
+      all_pushed (λ (e : TakeSide). e.of ≡ c.args.intake.now) c.loop-thread.back.ends.items _ came.1 ends i.6
           (kept.same ∙ thread.0.0),
-      one_back _ _ _ _ _ _ _ _ _ _ _ _ _ _ _ came.end came.post.seat came.post.own i.7 thread.0.1 kept ends seats sent
+      one_back _ _ _ _ _ _ _ _ _ _ _ _ _ _ _ came.1 came.0.seat came.0.own i.7 thread.0.1 kept ends seats sent
           c.or-back.ensures.0 c.or-back.ensures.1,
     )

@@ -1,6 +1,11 @@
-use Rattle.std.proofs.Common.{◌≡◌, [], Some, false, inl, inr, ⊎_elim, refl, ap, subst, sym, ◌∙◌}
+use Rattle.std.proofs.Common.{◌≡◌, ℕ, ◌+◌, [], All, Some, arith, false, inl, inr, ⊎_elim, refl, ap, subst, sym, ◌∙◌}
 use Rattle.std.proofs.KnownBytes.{Keeps-refl}
-use Rattle.fl_serve.proofs.ServingLemmas.{none_recorded, nothing_given, recorded_from}
+use Rattle.std.specs.List.{range_with_len}
+use Rattle.fl_serve.specs.Inside.Working.{IsFresh}
+use Rattle.fl_serve.proofs.ServingLemmas.{as_many, none_recorded, nothing_given, recorded_from, workers_of}
+use Rattle.fl_log.specs.Appended.{Appended}
+use Rattle.fl_workers.specs.Room.{HasBatchFor}
+use Rattle.fl_workers.specs.declared.entry.ReplyEntry.{ReplyEntry}
 use Rattle.fl_serve.proofs.serving.run_at.Goals as goal
 
 pub returns-in-Err-clause-recorded : goal.returns-in-Err-clause-recorded
@@ -8,6 +13,56 @@ returns-in-Err-clause-recorded g c = none_recorded _ _ _ _ [] false _ (c.nothing
     (⊎_elim (λ m. inl (c.nothing.ensures.fault ∙ ap Some m.1, refl)) (λ r. inr (c.nothing.ensures.fault ∙ ap Some r.1)) c.unopened.ensures)
     (c.nothing.ensures.read _ _ (Keeps-refl _)) (nothing_given _) (Keeps-refl _) (λ _. Keeps-refl _)
 
+pub at-posts-requires-clause-rest : goal.at-posts-requires-clause-rest
+at-posts-requires-clause-rest g c =
+    let many = as_many _ _ c.in-Ok.ensures.seats in
+    let whole = c.new-sender.ensures.whole in
+    (omega (arith, many, whole.0, c.requires.sending.2), whole.1)
+
+pub at-posts-requires-clause-room : goal.at-posts-requires-clause-room
+at-posts-requires-clause-room g c =
+    let many = as_many _ _ c.in-Ok.ensures.seats in
+    let room = c.in-Ok.ensures.room in (
+      omega (arith, many, room.0),
+      omega (arith, many, room.1),
+      omega (arith, many, room.2),
+      omega (arith, many, room.3),
+      omega (arith, many, room.4),
+    )
+
+pub appender-own-requires-clause-rest : goal.appender-own-requires-clause-rest
+appender-own-requires-clause-rest g c =
+    let many = as_many _ _ c.in-Ok.ensures.seats in
+    let whole = c.new-sender.ensures.whole in
+    let rest = c.at-posts.ensures.rest in
+    (omega (arith, many, whole.0, c.requires.sending.2, rest.0), rest.1)
+
+pub run_pool-requires-clause-parts : goal.run_pool-requires-clause-parts
+run_pool-requires-clause-parts g c =
+    let takers = c.in-Ok.ensures.put.1 in (
+      c.requires.parts.1,
+      omega (arith, takers, c.requires.sending.2),
+      omega (arith, takers, c.requires.workers.0),
+    )
+
+pub run_pool-requires-clause-seats : goal.run_pool-requires-clause-seats
+run_pool-requires-clause-seats g c =
+    workers_of (λ post. post.seat) _ _ c.at-posts.ensures.seats ∙ c.in-Ok.ensures.seats
+    ∙ sym (ap (range_with_len 0) c.in-Ok.ensures.put.1)
+
+pub run_pool-requires-clause-ends : goal.run_pool-requires-clause-ends
+run_pool-requires-clause-ends g c =
+    subst (All (IsFresh c.in-Ok.made.2.intake)) (sym c.at-posts.ensures.ends) c.in-Ok.ensures.ends
+
+pub run_pool-requires-clause-batches : goal.run_pool-requires-clause-batches
+run_pool-requires-clause-batches g c =
+    subst (All (HasBatchFor (g.L.BoardName.rules.parked + 1))) (sym c.at-posts.ensures.rooms) c.in-Ok.ensures.batches
+
+pub run_pool-requires-clause-own : goal.run_pool-requires-clause-own
+run_pool-requires-clause-own g c =
+    let by : ℕ → Appended ReplyEntry = λ author. record { author = author; count = 0; own = [] } in
+    c.appender-own.ensures.fresh ∙ sym (ap by c.in-Ok.ensures.put.1)
+
 pub returns-clause-recorded : goal.returns-clause-recorded
 returns-clause-recorded g c =
-    recorded_from _ _ _ _ _ _ _ _ _ _ c.requires.rules c.requires.start c.run_ready.ensures.recorded
+    recorded_from _ _ _ _ _ _ _ _ _ _ _ c.in-Ok.ensures.put.1 c.requires.rules c.requires.start c.run_pool.ensures.recorded

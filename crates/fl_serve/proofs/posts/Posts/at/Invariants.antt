@@ -1,6 +1,6 @@
 use Rattle.std.proofs.Common.{◌≡◌, ◌+◌, ◌≤◌, ◌<◌, ◌++◌, [], All, length, map, vec_capacity}
 use Rattle.fl_serve.specs.Inside.Working.{IsIdle}
-use Rattle.fl_serve.proofs.rooms.posts_at.Given as goal
+use Rattle.fl_serve.proofs.posts.Posts.at.Given as goal
 
 -- an idle post for each seat so far, in their order, and parts of the ledger for the others
 abbrev pub invariant-loop-seat : goal.invariant-loop-seat

@@ -3,7 +3,7 @@ use Rattle.fl_board.specs.Seats.{Place}
 use Rattle.fl_log.specs.Appended.{Appended}
 use Rattle.fl_serve.specs.Inside.Working.{IsIdle}
 use Rattle.fl_serve.proofs.PostLemmas.{all_pushed, first_and_rest, idle_at, seats_move}
-use Rattle.fl_serve.proofs.rooms.posts_at.Goals as goal
+use Rattle.fl_serve.proofs.posts.Posts.at.Goals as goal
 use Rattle.fl_workers.specs.declared.entry.ReplyEntry.{ReplyEntry}
 
 pub loop-seat-preserved : goal.loop-seat-preserved

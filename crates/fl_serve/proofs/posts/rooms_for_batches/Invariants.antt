@@ -1,6 +1,6 @@
 use Rattle.std.proofs.Common.{◌+◌, All}
 use Rattle.fl_workers.specs.Room.{HasBatchFor}
-use Rattle.fl_serve.proofs.rooms.rooms_for_batches.Given as goal
+use Rattle.fl_serve.proofs.posts.rooms_for_batches.Given as goal
 
 -- each so far has room for a batch, and for the replies to it under these rules
 abbrev pub invariant-loop : goal.invariant-loop

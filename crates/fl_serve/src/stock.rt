@@ -1,0 +1,100 @@
+//! What a session with workers has before its first read.
+
+ghost use Rattle.std.specs.Prelude.{◌≡◌, ◌≤◌, ◌<◌, ◌+◌, [], All, false, map, vec_capacity, IfOk};
+ghost use Rattle.std.specs.List.{range_with_len};
+ghost use Rattle.fl_serve.specs.Inside.Working.{IsFresh};
+ghost use Rattle.fl_transport.specs.Inbox.{IsUnread};
+ghost use Rattle.fl_workers.specs.Room.{HasRoomFor, HasBatchFor};
+
+use crate::posts::Posts;
+use fl_board::{Board, BoardName, OpenFault, Seat};
+use fl_core::Rules;
+use fl_history::Journal;
+use fl_intake::{Intake, PutEnd};
+use fl_log::{Ask, FreshLog};
+use fl_order::NoMemory;
+use fl_transport::{Inbox, ReplyBuffer};
+use fl_workers::{ReplyRoom, WriterName};
+use std::alloc::Global;
+use std::sync::Wait;
+use std::sync::ledger::Blank;
+
+/// What a session has before its first read beside its board: its intake with all ends, and memory for what is to come.
+#[derive(Drop)]
+pub(crate) struct Stock<L: BoardName, N: WriterName> {
+    /// For the replies to the orders that no worker takes.
+    pub left: ReplyRoom,
+    pub inbox: Inbox,
+    pub replies: ReplyBuffer,
+    pub intake: Intake,
+    pub put: PutEnd,
+    pub posts: Posts<L, N>,
+}
+
+impl<L: BoardName, N: WriterName> Stock<L, N> {
+    fn new(alloc: Global, workers: u32, rules: Rules) -> Result<Stock<L, N>, NoMemory>
+        requires workers { (0 < workers) × (workers ≤ 16) }
+        ensures left { IfOk result (λ stock. HasRoomFor (rules.parked + 1) stock.left) }
+        ensures unread { IfOk result (λ stock. IsUnread stock.inbox) }
+        ensures none { IfOk result (λ stock. (stock.replies ≡ []) × (stock.posts.posts.items ≡ [])) }
+        ensures put { IfOk result (λ stock. (stock.put.of ≡ stock.intake) × (stock.put.takers ≡ workers)
+            × (stock.put.closed ≡ false) × (stock.put.put ≡ [])) }
+        ensures ends { IfOk result (λ stock. All (IsFresh stock.intake) stock.posts.ends.items) }
+        ensures batches { IfOk result (λ stock. All (HasBatchFor (rules.parked + 1)) stock.posts.rooms.items) }
+        ensures room { IfOk result (λ stock. (workers ≤ vec_capacity stock.posts.posts)
+            × (workers ≤ vec_capacity stock.posts.threads) × (workers ≤ vec_capacity stock.posts.back.seats)
+            × (workers < vec_capacity stock.posts.back.appenders)
+            × (workers ≤ vec_capacity stock.posts.back.ends)) }
+    {
+        let left = ReplyRoom::new(alloc, rules)?;
+        let inbox = Inbox::new(alloc)?;
+        let replies = ReplyBuffer::new(alloc)?;
+        let (intake, put, ends) = Intake::new(alloc, workers)?;
+        let posts = Posts::with_room(alloc, workers, rules, ends)?;
+        Ok(Stock {
+            left,
+            inbox,
+            replies,
+            intake,
+            put,
+            posts,
+        })
+    }
+}
+
+/// A board over this journal, with a seat for each of so many workers, and all else that a session under these rules
+/// has before its first read.
+pub(crate) fn opened<L: BoardName, N: WriterName, R: Wait + Drop, J: Journal + Drop>(
+    alloc: Global,
+    rt: R,
+    journal: J,
+    blank: Blank,
+    log: FreshLog<Ask>,
+    workers: u32,
+    rules: Rules,
+) -> Result<(Board<L, R, J>, Vec<Seat<L>>, Stock<L, N>), OpenFault>
+    requires none { J.lines journal ≡ [] }
+    requires named { (blank.name ≡ L.name) × (blank.parts ≡ L.parts) }
+    requires log { log ≡ L.log }
+    requires parts { (workers ≡ L.parts) × (L.workers ≡ L.parts) }
+    requires rules { rules ≡ L.rules }
+    requires workers { (0 < workers) × (workers ≤ 16) }
+    ensures seats { IfOk result (λ made. map (λ seat. seat.worker) made.1.items ≡ range_with_len 0 workers) }
+    ensures fresh { IfOk result (λ made.
+        All (λ seat. (seat.count ≡ 0) × (seat.own ≡ []) × (seat.seen ≡ [])) made.1.items) }
+    ensures left { IfOk result (λ made. HasRoomFor (L.rules.parked + 1) made.2.left) }
+    ensures unread { IfOk result (λ made. IsUnread made.2.inbox) }
+    ensures none { IfOk result (λ made. (made.2.replies ≡ []) × (made.2.posts.posts.items ≡ [])) }
+    ensures put { IfOk result (λ made. (made.2.put.of ≡ made.2.intake) × (made.2.put.takers ≡ workers)
+        × (made.2.put.closed ≡ false) × (made.2.put.put ≡ [])) }
+    ensures ends { IfOk result (λ made. All (IsFresh made.2.intake) made.2.posts.ends.items) }
+    ensures batches { IfOk result (λ made. All (HasBatchFor (L.rules.parked + 1)) made.2.posts.rooms.items) }
+    ensures room { IfOk result (λ made. (workers ≤ vec_capacity made.2.posts.posts)
+        × (workers ≤ vec_capacity made.2.posts.threads) × (workers ≤ vec_capacity made.2.posts.back.seats)
+        × (workers < vec_capacity made.2.posts.back.appenders)
+        × (workers ≤ vec_capacity made.2.posts.back.ends)) }
+{
+    let stock = Stock::<L, N>::new(alloc, workers, rules)?;
+    let (board, seats) = Board::<L, R, J>::over(alloc, rt, journal, blank, log, workers, rules)?;
+    Ok((board, seats, stock))
+}
