@@ -309,7 +309,7 @@ fn give_lists<R: Wait, G: Gate, W: Write, N: WriterName>(
 {
     let lost = collect_lists(rt, sender, own, lists);
     for place in 0..lists.count() {
-        tell(gate, &Response::Replies(lists.list(place)));
+        notify(gate, &Response::Replies(lists.list(place)));
     }
     lost
 }
@@ -343,7 +343,7 @@ fn give<R: Wait, G: Gate, W: Write, N: WriterName>(
     ensures { HasSent (entry own.old.author (replies_of response.now) ∷ []) own.old own.new result }
 {
     let lost = collect(rt, sender, own, response);
-    tell(gate, response);
+    notify(gate, response);
     lost
 }
 
@@ -378,7 +378,7 @@ fn flush<R: Wait, W: Write, N: WriterName>(rt: &R, sender: &Mutex<SharedSender<'
 }
 
 // Tells the gate of each reply.
-fn tell<G: Gate>(gate: &G, response: &Response) {
+fn notify<G: Gate>(gate: &G, response: &Response) {
     match response {
         Response::Nothing => {}
         Response::Init(unique, _) => gate.sent(*unique),

@@ -2,10 +2,11 @@
 
 use crate::descriptors::hold_closed_streams;
 use crate::host::Host;
-use crate::words::tell_unconnected;
+use crate::words::explain_unconnected;
 use lockd_commands::{
     CheckOptions, CommandFault, Details, Kept, LocksOptions, Noting, Rules, Status, bytes_on,
-    check_on, drive_on, locks_on, script_on, tell_hex, tell_script, tell_streams, tell_trace,
+    check_on, drive_on, explain_hex, explain_script, explain_streams, explain_trace, locks_on,
+    script_on,
 };
 use std::io;
 use std::path::Path;
@@ -21,8 +22,8 @@ pub(crate) fn script(host: Host<'_>, rules: Rules) -> Status {
     let mut faults = rt.stderr();
     let status = script_on(rt.alloc(), rules, &mut input, &mut output, &mut faults);
     if host.verbose {
-        tell_streams(&mut faults, status, input.input().failed(), output.failed());
-        tell_script(&mut faults, status, INPUT, input.text());
+        explain_streams(&mut faults, status, input.input().failed(), output.failed());
+        explain_script(&mut faults, status, INPUT, input.text());
     }
     status
 }
@@ -45,8 +46,8 @@ pub(crate) fn check(host: Host<'_>, rules: Rules, tells_quiet: bool, cut: bool) 
         &mut details,
     );
     if host.verbose {
-        tell_streams(&mut faults, status, input.failed(), output.failed());
-        tell_trace(&mut faults, alloc, status, INPUT, &details);
+        explain_streams(&mut faults, status, input.failed(), output.failed());
+        explain_trace(&mut faults, alloc, status, INPUT, &details);
     }
     status
 }
@@ -84,8 +85,8 @@ pub(crate) fn locks(
         &mut details,
     );
     if host.verbose {
-        tell_streams(&mut faults, status, input.failed(), output.failed());
-        tell_trace(&mut faults, alloc, status, INPUT, &details);
+        explain_streams(&mut faults, status, input.failed(), output.failed());
+        explain_trace(&mut faults, alloc, status, INPUT, &details);
     }
     status
 }
@@ -98,8 +99,8 @@ pub(crate) fn bytes(host: Host<'_>, rules: Rules) -> Status {
     let mut faults = rt.stderr();
     let status = bytes_on(rt.alloc(), rules, &mut input, &mut output, &mut faults);
     if host.verbose {
-        tell_streams(&mut faults, status, input.input().failed(), output.failed());
-        tell_hex(&mut faults, status, INPUT, input.text());
+        explain_streams(&mut faults, status, input.input().failed(), output.failed());
+        explain_hex(&mut faults, status, INPUT, input.text());
     }
     status
 }
@@ -122,10 +123,10 @@ pub(crate) fn drive(host: Host<'_>, socket: &str) -> Status {
         &mut why,
     );
     if host.verbose {
-        tell_streams(&mut faults, status, input.input().failed(), output.failed());
-        tell_hex(&mut faults, status, INPUT, input.text());
+        explain_streams(&mut faults, status, input.input().failed(), output.failed());
+        explain_hex(&mut faults, status, INPUT, input.text());
         if status == Status::Faulted(CommandFault::Connect) {
-            tell_unconnected(&mut faults, rt, socket, &why);
+            explain_unconnected(&mut faults, rt, socket, &why);
         }
     }
     status

@@ -11,7 +11,7 @@ use crate::words::ServerWords;
 use lockd_cli::{Trace, WhenFull, WhenStuck};
 use lockd_commands::{CommandFault, Noting, Rules, Status};
 use lockd_serve::{
-    Observer, ServeOptions, Telling, TraceTo, Untraced, WhenUnwritten, WhenWriterFails,
+    Announcing, Observer, ServeOptions, TraceTo, Untraced, WhenUnwritten, WhenWriterFails,
     end_unopened, end_without_file, is_at, is_unused, resume_on, serve_on,
 };
 use std::fs::{File, Files, OpenOptions};
@@ -23,7 +23,7 @@ use std::thread::Threads;
 use std::{fs, io};
 
 // What writes a trace's file.
-type Written<'a> = Telling<'a, File, Stderr>;
+type Written<'a> = Announcing<'a, File, Stderr>;
 
 // What says what a server does.
 type Words<'a> = ServerWords<'a, HostRuntime, Stderr>;
@@ -172,7 +172,7 @@ fn opened<'a, R: Files, F: Write, N: Write>(
             };
             words.begun();
             lock(&made, words);
-            Ok(TraceTo::Writer(Telling::new(made, file.as_str(), rt.stderr())))
+            Ok(TraceTo::Writer(Announcing::new(made, file.as_str(), rt.stderr())))
         }
     }
 }

@@ -1,6 +1,6 @@
 //! What `--verbose` adds on standard error.
 
-use lockd_commands::{Details, Status, tell_streams, tell_trace};
+use lockd_commands::{Details, Status, explain_streams, explain_trace};
 use lockd_serve::{Observer, Parting, Untraced};
 use std::alloc::Global;
 use std::fmt::Display;
@@ -59,7 +59,7 @@ impl<'a, R: Files, W: Write> ServerWords<'a, R, W> {
     /// The server ended so, and the last write to its output that failed did so for this reason.
     pub(crate) fn printed(&mut self, status: Status, unwritten: Option<ErrorKind>) {
         if let Some(to) = &mut self.to {
-            tell_streams(to, status, None, unwritten);
+            explain_streams(to, status, None, unwritten);
         }
     }
 
@@ -109,7 +109,7 @@ impl<R: Files, W: Write> Observer for ServerWords<'_, R, W> {
 
     fn unresumed(&mut self, alloc: Global, status: Status, details: &Details) {
         if let Some(to) = &mut self.to {
-            tell_trace(to, alloc, status, self.file, details);
+            explain_trace(to, alloc, status, self.file, details);
         }
     }
 
@@ -214,7 +214,7 @@ fn in_folder(kind: ErrorKind) -> &'static str {
 }
 
 /// Says why no server was reached at a path, and what to do. The system gave this reason, if the path isn't empty.
-pub(crate) fn tell_unconnected<R: Files, W: Write>(
+pub(crate) fn explain_unconnected<R: Files, W: Write>(
     to: &mut W,
     rt: &R,
     socket: &str,

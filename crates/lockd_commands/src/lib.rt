@@ -2,7 +2,7 @@
 //! writers, and `drive`, a client of a server; and what `--verbose` says of what they read.
 //!
 //! Contracts see no failure of a reader or a writer, and nothing of a socket. They let through:
-//! - a command that tells its fault in part, or not at all;
+//! - a command that prints its fault in part, or not at all;
 //! - one that tells `no memory`, or a read or a write that failed, though none did;
 //! - one that ends well though its output couldn't be flushed;
 //! - a `locks_on` that tells `differs N` in part, or not at all;
@@ -11,11 +11,10 @@
 //!   at an empty path;
 //! - a `drive_on` that prints replies which didn't come from the socket (`try_stored_replies` in `tests/serve/sockets.py`);
 //! - one that says another reason why it isn't connected, or none (`tests/commands/words.py`);
-//! - a `Kept` that keeps another text, and a `tell_trace`, `tell_script`, `tell_hex` or `tell_streams` that says anything
-//!   else (`tests/commands/words.py`, `tests/commands/texts.py`).
+//! - a `Kept` that keeps another text, and an `explain_trace`, `explain_script`, `explain_hex` or `explain_streams` that
+//!   says anything else (`tests/commands/words.py`, `tests/commands/texts.py`).
 //!
-//! `fl_stream_tests`, and the scripts of `tests/commands`, `tests/locks` and `tests/serve` refuse
-//! these.
+//! `fl_stream_tests`, and the scripts of `tests/commands`, `tests/locks` and `tests/serve` refuse these.
 //!
 //! After `write failed` the output holds a beginning of what was to be printed. No contract says how long it is. If
 //! only the flush failed, it is all: `an_output_that_fails_when_it_is_flushed` in `fl_stream_tests` sees that of
@@ -42,4 +41,4 @@ pub use kept::Kept;
 pub use lockd_faults::{CommandFault, Noting, Status};
 pub use locks::{LocksOptions, locks_on};
 pub use script::script_on;
-pub use verbose::{tell_hex, tell_script, tell_streams, tell_trace};
+pub use verbose::{explain_hex, explain_script, explain_streams, explain_trace};

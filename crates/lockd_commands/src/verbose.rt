@@ -11,7 +11,7 @@ use std::io::{ErrorKind, Write};
 
 /// Says more of how a command ended that read a trace from an input of this name. Lines are spelled in this memory, and
 /// less is said if there is none.
-pub fn tell_trace<W: Write>(
+pub fn explain_trace<W: Write>(
     to: &mut W,
     alloc: Global,
     status: Status,
@@ -19,14 +19,14 @@ pub fn tell_trace<W: Write>(
     details: &Details,
 ) {
     match status {
-        Status::Good => tell_counts(to, details.lines, details.orders),
+        Status::Good => print_counts(to, details.lines, details.orders),
         Status::Faulted(CommandFault::BadLine(n)) => {
             let line = details.bad.text();
-            tell_bad(to, name, n, line, why_bad(line, details.bad.is_ended));
+            print_bad(to, name, n, line, why_bad(line, details.bad.is_ended));
         }
         Status::Different | Status::Faulted(CommandFault::Differs(_)) => {
             if let Some(difference) = &details.difference {
-                tell_difference(to, alloc, name, difference);
+                print_difference(to, alloc, name, difference);
             }
         }
         Status::Faulted(_) => {}
@@ -34,18 +34,18 @@ pub fn tell_trace<W: Write>(
 }
 
 /// Says more of how a command ended that read this text of orders, if it was kept, from an input of this name.
-pub fn tell_script<W: Write>(to: &mut W, status: Status, name: &str, text: Option<&[u8]>) {
+pub fn explain_script<W: Write>(to: &mut W, status: Status, name: &str, text: Option<&[u8]>) {
     let Some(text) = text else {
         return;
     };
     match status {
         Status::Good => {
             let orders = text.iter().filter(|byte| **byte == b'\n').count();
-            tell_counts(to, orders, orders);
+            print_counts(to, orders, orders);
         }
         Status::Faulted(CommandFault::BadLine(n)) => {
             if let Some((line, ended)) = line_of(text, n) {
-                tell_bad(to, name, n, line, why_bad_order(line, ended));
+                print_bad(to, name, n, line, why_bad_order(line, ended));
             }
         }
         Status::Different | Status::Faulted(_) => {}
@@ -53,16 +53,16 @@ pub fn tell_script<W: Write>(to: &mut W, status: Status, name: &str, text: Optio
 }
 
 /// Says more of how a command ended that read this text of hex, if it was kept, from an input of this name.
-pub fn tell_hex<W: Write>(to: &mut W, status: Status, name: &str, text: Option<&[u8]>) {
+pub fn explain_hex<W: Write>(to: &mut W, status: Status, name: &str, text: Option<&[u8]>) {
     if let (Some(text), Status::Faulted(CommandFault::BadLine(n))) = (text, status) {
         if let Some((line, ended)) = line_of(text, n) {
-            tell_bad(to, name, n, line, why_bad_hex(line, ended));
+            print_bad(to, name, n, line, why_bad_hex(line, ended));
         }
     }
 }
 
 /// Says why standard input can't be read, or standard output can't be written, if a command ended for this.
-pub fn tell_streams<W: Write>(
+pub fn explain_streams<W: Write>(
     to: &mut W,
     status: Status,
     unread: Option<ErrorKind>,
@@ -89,29 +89,29 @@ fn line_of(text: &[u8], number: usize) -> Option<(&[u8], bool)> {
     }
 }
 
-fn tell_counts<W: Write>(to: &mut W, lines: usize, orders: usize) {
+fn print_counts<W: Write>(to: &mut W, lines: usize, orders: usize) {
     let lines = Count(lines, "line");
     let orders = Count(orders, "order");
     let _ = writeln!(to, "{lines}, {orders}");
 }
 
-fn tell_bad<W: Write>(to: &mut W, name: &str, n: usize, line: &[u8], why: Why<'_>) {
+fn print_bad<W: Write>(to: &mut W, name: &str, n: usize, line: &[u8], why: Why<'_>) {
     let text = Shown(line);
     let _ = writeln!(to, "line {n} of {name}: {text}");
     let _ = writeln!(to, "{why}");
 }
 
 // Says which line breaks the rules, and what they want there.
-fn tell_difference<W: Write>(to: &mut W, alloc: Global, name: &str, difference: &Difference) {
+fn print_difference<W: Write>(to: &mut W, alloc: Global, name: &str, difference: &Difference) {
     let n = difference.number;
     match &difference.found {
-        Some(line) => tell_line(to, alloc, format_args!("line {n} of {name}"), line),
+        Some(line) => print_line(to, alloc, format_args!("line {n} of {name}"), line),
         None => {
             let _ = writeln!(to, "line {n} of {name} is missing");
         }
     }
     match difference.due {
-        Some(due) => tell_line(to, alloc, format_args!("the rules want"), &Line::Told(due)),
+        Some(due) => print_line(to, alloc, format_args!("the rules want"), &Line::Told(due)),
         None => {
             let _ = writeln!(to, "the rules want an order there: no reply is due");
         }
@@ -123,7 +123,7 @@ fn tell_difference<W: Write>(to: &mut W, alloc: Global, name: &str, difference: 
 }
 
 // Says what a line is, and the line, if there is memory to spell it.
-fn tell_line<W: Write, D: Display + Drop>(to: &mut W, alloc: Global, what: D, line: &Line) {
+fn print_line<W: Write, D: Display + Drop>(to: &mut W, alloc: Global, what: D, line: &Line) {
     let mut text = Vec::new(alloc);
     if text.reserve(LINE_ROOM).is_ok() {
         push_line(&mut text, line);

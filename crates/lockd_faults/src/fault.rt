@@ -70,7 +70,7 @@ impl Display for CommandFault {
 impl Error for CommandFault {}
 
 /// Tells a fault as one line, and takes no memory for it.
-pub fn tell<F: Write>(faults: &mut F, fault: CommandFault)
+pub fn print_fault<F: Write>(faults: &mut F, fault: CommandFault)
     ensures { IsTold fault (F.contents faults.old) (F.contents faults.new) }
 {
     let mut line = LineBuffer::new();

@@ -4,7 +4,7 @@ ghost use Rattle.std.specs.Prelude.{◌≡◌, IfErr, OnOk};
 ghost use Rattle.std.specs.Io.KnownBytes.{Keeps};
 ghost use Rattle.lockd_faults.specs.Faults.{IsTold};
 
-use crate::fault::{CommandFault, tell};
+use crate::fault::{CommandFault, print_fault};
 use std::io::Write;
 
 /// How a command ended.
@@ -33,7 +33,7 @@ impl Status {
     }
 }
 
-/// Ends a command: tells the fault by which it gave up, if it did.
+/// Ends a command: prints the fault by which it gave up, if it did.
 pub fn end<F: Write>(faults: &mut F, done: Result<(), CommandFault>) -> Status
     ensures good { OnOk done ((result ≡ Status.Good) × Keeps (F.contents faults.old) (F.contents faults.new)) }
     ensures faulted { IfErr done (λ fault. (result ≡ Status.Faulted fault)
@@ -42,7 +42,7 @@ pub fn end<F: Write>(faults: &mut F, done: Result<(), CommandFault>) -> Status
     match done {
         Ok(()) => Status::Good,
         Err(fault) => {
-            tell(faults, fault);
+            print_fault(faults, fault);
             Status::Faulted(fault)
         }
     }

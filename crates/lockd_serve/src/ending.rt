@@ -12,7 +12,7 @@ ghost use Rattle.lockd_serve.specs.Ending.{Ends, EndsUntraced, Prints, Traces, h
 
 use fl_serve::{Done, Fault, Recorded};
 use fl_stream::{Streamed, TraceRoom};
-use lockd_faults::{CommandFault, Status, end, print, tell};
+use lockd_faults::{CommandFault, Status, end, print, print_fault};
 use lockd_streams::{Observer, Untraced};
 use std::io;
 use std::io::Write;
@@ -51,7 +51,7 @@ pub fn end_unopened<F: Write, O: Observer>(
     status
 }
 
-/// Prints the trace of a session, and then tells its fault. If the output can't be written, that alone is told.
+/// Prints the trace of a session, and then its fault. If the output can't be written, that alone is told.
 pub(crate) fn end_printed<W: Write, F: Write>(
     room: &mut TraceRoom,
     done: &Done,
@@ -81,7 +81,7 @@ pub(crate) fn end_printed<W: Write, F: Write>(
     end_session(faults, done.fault)
 }
 
-/// Ends a session whose trace went to a writer: tells its fault, and that the trace failed if the writer lacks some of
+/// Ends a session whose trace went to a writer: prints its fault, and that the trace failed if the writer lacks some of
 /// it. The writer comes back if the session has a history.
 pub(crate) fn end_streamed<T: Write + Drop, F: Write>(
     faults: &mut F,
@@ -160,7 +160,7 @@ pub(crate) fn end_session<F: Write>(faults: &mut F, fault: Option<Fault>) -> Sta
     }
 }
 
-// Ends a session whose trace failed: tells its fault, if it has another, and then that.
+// Ends a session whose trace failed: prints its fault, if it has another, and then that.
 fn end_untraced<F: Write>(faults: &mut F, fault: Option<Fault>) -> Status
     ensures ends { EndsUntraced (told_of fault) (record {
       status = result;
@@ -175,7 +175,7 @@ fn end_untraced<F: Write>(faults: &mut F, fault: Option<Fault>) -> Status
         None | Some(Fault::Unstored) => end(faults, Err(CommandFault::TraceFailed)),
         Some(_) => {
             let status = end_session(faults, fault);
-            tell(faults, CommandFault::TraceFailed);
+            print_fault(faults, CommandFault::TraceFailed);
             status
         }
     }

@@ -9,13 +9,13 @@
 //! - a `serve_stream` that says `no memory` and serves nobody, or says wrongly that the trace failed, or the output;
 //! - one that does with orders what another `when_full` says, when its trace's writer can't be written;
 //! - one that shuts its socket down before the session, only once the trace is printed, or not at all;
-//! - one that tells a fault in part, or not at all, and what `fl_session`, `fl_serve`, `fl_stream` and `lockd_streams`
+//! - one that prints a fault in part, or not at all, and what `fl_session`, `fl_serve`, `fl_stream` and `lockd_streams`
 //!   let through;
 //! - a `serve_on` that always says `cannot listen`, or serves something else than the connection;
 //! - a `resumed_from` that is always refused, cuts nothing off or too much, or cuts a file whose lines differ;
 //! - a `resume` that says `NoMemory` having read nothing, or that the file isn't whole though it is, or that writes
 //!   nothing to the file before a reply waits, and what `fl_judge` lets through;
-//! - a `resume_on` that serves nobody and tells any of its faults, or goes on behind no lines;
+//! - a `resume_on` that serves nobody and prints any of its faults, or goes on behind no lines;
 //! - one that doesn't lock its file, or only once it was read, or doesn't ask at the end whether it is there;
 //! - a server that tells its observer something else than what it does, or nothing, or another reason.
 //!
@@ -40,7 +40,7 @@ pub use behind::{ResumedRun, resume};
 pub use ending::end_unopened;
 pub use fl_stream::WhenWriterFails;
 pub use lockd_streams::{
-    Observer, Parting, Telling, Untraced, WhenUnwritten, end_without_file, is_at,
+    Announcing, Observer, Parting, Untraced, WhenUnwritten, end_without_file, is_at,
 };
 pub use options::{ServeOptions, TraceTo};
 pub use resume_file::{resume_on, resumed_from};

@@ -19,8 +19,8 @@ use fl_history::Recent;
 use fl_judge::{AuditFault, Details, Heard, Judge, Resumed, hear_cut};
 use lockd_faults::{CommandFault, Noting, Status, end};
 use lockd_streams::{
-    Observer, OldSocket, Patient, Retrying, Spinning, Telling, Untraced, WhenUnwritten, connection,
-    is_at,
+    Announcing, Observer, OldSocket, Patient, Retrying, Spinning, Untraced, WhenUnwritten,
+    connection, is_at,
 };
 use std::alloc::Global;
 use std::fs::{File, Files, OpenFile, TryLockError};
@@ -85,7 +85,7 @@ pub fn resume_on<R: Net + Files + Clock, F: Write, N: Write + Drop, O: Observer>
     };
     let mut r = Spinning::new(&stream, &stream);
     let mut w = Noting::new(Patient::new(&stream, &stream));
-    let file = Retrying::new(Telling::new(file, name, notices), rt, when);
+    let file = Retrying::new(Announcing::new(file, name, notices), rt, when);
     let Ok(ended) = resume(alloc, &mut r, &mut w, resumed, recent, file, rules) else {
         return end(faults, Err(CommandFault::NoMemory));
     };

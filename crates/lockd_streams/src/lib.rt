@@ -7,7 +7,7 @@
 //! - a `file_at` that gives other numbers than the file's device and inode, or those of a file at another path;
 //! - a `remove_socket` that asks `is_same_socket` about another path, or removes the file whatever the answer is;
 //! - a `remove_stale` that removes a socket at which somebody listens, or none;
-//! - a `Retrying` that gives up at `Wait`, tries again at `End`, or doesn't pause; a `Telling` that tells always or
+//! - a `Retrying` that gives up at `Wait`, tries again at `End`, or doesn't pause; an `Announcing` that tells always or
 //!   never, or that all is written before it is;
 //! - an `is_at` that always gives the same answer;
 //! - a `Spinning` that never or always spins, reads on after a read that failed, or leaves its socket so that it
@@ -33,7 +33,7 @@ mod spinning;
 mod trace_file;
 
 pub use observer::{Observer, Parting, Untraced};
-pub use retrying::{Retrying, Telling, WhenUnwritten};
+pub use retrying::{Announcing, Retrying, WhenUnwritten};
 pub use socket::{OldSocket, connection};
 pub use spinning::{Patient, Spinning};
 pub use trace_file::{end_without_file, is_at};

@@ -14,7 +14,7 @@ const PAUSE: u64 = 100;
 /// Writes to a file, and tells the first of writes that fail, and the first behind it that takes all bytes that wait.
 /// Contracts see the file.
 #[derive(Drop)]
-pub struct Telling<'a, T, N> {
+pub struct Announcing<'a, T, N> {
     file: T,
     name: &'a str,
     notices: N,
@@ -22,18 +22,18 @@ pub struct Telling<'a, T, N> {
     failed: bool,
 }
 
-impl<'a, T, N> Model for Telling<'a, T, N> {
+impl<'a, T, N> Model for Announcing<'a, T, N> {
     ghost Value = { T };
 
     ghost view = { λ t. t.file };
 }
 
-impl<'a, T: Write, N: Write> Telling<'a, T, N> {
+impl<'a, T: Write, N: Write> Announcing<'a, T, N> {
     /// To a file of this name. Each line that it tells goes to `notices`.
-    pub fn new(file: T, name: &'a str, notices: N) -> Telling<'a, T, N>
+    pub fn new(file: T, name: &'a str, notices: N) -> Announcing<'a, T, N>
         ensures { result ≡ file }
     {
-        Telling {
+        Announcing {
             file,
             name,
             notices,
@@ -49,7 +49,7 @@ impl<'a, T: Write, N: Write> Telling<'a, T, N> {
     }
 
     // Tells that a write failed, if that isn't told yet.
-    fn tell_failed(&mut self, error: &io::Error)
+    fn announce_failure(&mut self, error: &io::Error)
         ensures { self.new ≡ self.old }
     {
         if !self.failed {
@@ -59,7 +59,7 @@ impl<'a, T: Write, N: Write> Telling<'a, T, N> {
     }
 
     // Tells that all is written, if one failed before.
-    fn tell_over(&mut self)
+    fn announce_recovery(&mut self)
         ensures { self.new ≡ self.old }
     {
         if self.failed {
@@ -69,16 +69,16 @@ impl<'a, T: Write, N: Write> Telling<'a, T, N> {
     }
 }
 
-impl<T: Write, N: Write> Write for Telling<'_, T, N> {
+impl<T: Write, N: Write> Write for Announcing<'_, T, N> {
     ghost contents = { T.contents };
 
     fn write(&mut self, buf: &[u8]) -> io::Result<usize> {
         let written = self.file.write(buf);
         match &written {
-            Ok(count) if *count > 0 && *count == buf.len() => self.tell_over(),
+            Ok(count) if *count > 0 && *count == buf.len() => self.announce_recovery(),
             Ok(_) => {}
             Err(error) if error.kind() == ErrorKind::Interrupted => {}
-            Err(error) => self.tell_failed(error),
+            Err(error) => self.announce_failure(error),
         }
         written
     }

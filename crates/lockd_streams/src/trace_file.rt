@@ -5,7 +5,7 @@ ghost use Rattle.std.specs.Io.KnownBytes.{Keeps};
 ghost use Rattle.lockd_faults.specs.Faults.{IsTold};
 ghost use Rattle.lockd_faults.specs.declared.fault.CommandFault.{CommandFault};
 
-use lockd_faults::{CommandFault, Status, end, tell};
+use lockd_faults::{CommandFault, Status, end, print_fault};
 use std::fs;
 use std::fs::{Files, OpenFile};
 use std::io::Write;
@@ -34,7 +34,7 @@ pub fn end_without_file<F: Write>(faults: &mut F, status: Status) -> Status
         Status::Good => end(faults, Err(CommandFault::TraceFailed)),
         Status::Faulted(CommandFault::TraceFailed) => status,
         Status::Faulted(_) | Status::Different => {
-            tell(faults, CommandFault::TraceFailed);
+            print_fault(faults, CommandFault::TraceFailed);
             status
         }
     }
