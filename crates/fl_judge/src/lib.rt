@@ -11,6 +11,7 @@
 //!   seen in the code;
 //! - that `audit`, `hear_first` and `hear_cut` read on after a bad line, or the last that is wanted (`tests/commands/check.py`),
 //!   nor what they say of a reader whose bytes aren't known;
+//! - the text of the bad line in `Details`, nor what these hold after a fault (`tests/commands/words.py`);
 //! - that they tell a failed read or `NoMemory` only if there was one: `tests/commands/pieces.py` and
 //!   `tests/commands/allocations.py` see that.
 #![tactic(auto)]
