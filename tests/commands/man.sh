@@ -6,13 +6,13 @@
 set -eu
 cd "$(dirname "$0")/../.."
 lockd=${LOCKD:-$PWD/crates/lockd/out/lockd}
-[ -x "$lockd" ] || { echo "check_man: not checked: there is no program at $lockd" >&2; exit 77; }
+[ -x "$lockd" ] || { echo "commands/man: not checked: there is no program at $lockd" >&2; exit 77; }
 # Help is on standard error with status 2.
 help_of() {
     "$lockd" "$@" --help 2>&1 || :
 }
 commands=$(help_of | sed -n '/^Commands:/,/^$/s/^  \([a-z]*\) .*/\1/p')
-[ -n "$commands" ] || { echo 'check_man: lockd --help names no command'; exit 1; }
+[ -n "$commands" ] || { echo 'commands/man: lockd --help names no command'; exit 1; }
 options=$(for command in '' $commands; do
     [ "$command" = help ] || help_of $command
 done | grep -E '^ +-' | grep -oE '(^| )--?[A-Za-z][a-z-]*' | sort -u)

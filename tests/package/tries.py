@@ -233,7 +233,7 @@ def uninstalls_nothing(prefix, *said):
     same(([it for it in said if it not in told], sorted(before ^ written())), ([], []))
 
 
-def try_tools_install():
+def try_an_installation():
     """Twice in each place. What is in use isn't removed."""
     os.mkdir(f"{ROOT}/srv/locks")
     for prefix in "/usr/local", "/srv/of/ours":
@@ -280,7 +280,7 @@ def files_of(prefix):
     return sorted(it[len(ROOT):] for it in below(f"{ROOT}{prefix}") if not os.path.isdir(it))
 
 
-def try_tools_install_touches_no_file_of_others():
+def try_an_installation_touches_no_file_of_others():
     """One that is there before, and one that was changed. The list keeps that one, and removes it once it is as it was again."""
     install("/usr/local")
     line, before = f"{hashlib.sha256(text_of(f'{ROOT}{PAGE}').encode()).hexdigest()} {PAGE}", changes(PAGE)
@@ -335,7 +335,7 @@ def try_a_list_without_checksums():
     is_as_before()
 
 
-def try_tools_install_and_the_package():
+def try_an_installation_and_the_package():
     """The package is installed over what dist/install has installed. All files that it has stay its own."""
     install("/usr")
     installs()
