@@ -109,8 +109,8 @@ impl<L: BoardName, N: WriterName> Posts<L, N> {
             × (length seats.items < vec_capacity self.back.appenders)
             × (length seats.items ≤ vec_capacity self.back.ends) }
         ensures seats { map (λ post. post.seat) result.posts.items ≡ seats.items }
-        ensures ends { result.ends.items ≡ self.entry.ends.items }
-        ensures rooms { result.rooms.items ≡ self.entry.rooms.items }
+        ensures ends { result.ends.items ≡ self.ends.items }
+        ensures rooms { result.rooms.items ≡ self.rooms.items }
         ensures rest { (rest.new.parts + length seats.items ≡ rest.old.parts) × (rest.new.amount ≡ 0) }
     {
         let Posts {
