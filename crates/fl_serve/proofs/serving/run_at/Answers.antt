@@ -38,7 +38,7 @@ appender-own-requires-clause-rest g c =
     (omega (arith, many, whole.0, c.requires.sending.2, rest.0), rest.1)
 
 pub run_pool-requires-clause-parts : goal.run_pool-requires-clause-parts
-run_pool-requires-clause-parts g c _ =
+run_pool-requires-clause-parts g c _ _ =
     let takers = c.in-Ok.ensures.put.1 in (
       c.requires.parts.1,
       omega (arith, takers, c.requires.sending.2),
@@ -46,20 +46,20 @@ run_pool-requires-clause-parts g c _ =
     )
 
 pub run_pool-requires-clause-seats : goal.run_pool-requires-clause-seats
-run_pool-requires-clause-seats g c _ =
+run_pool-requires-clause-seats g c _ _ =
     workers_of (λ post. post.seat) _ _ c.at-posts.ensures.seats ∙ c.in-Ok.ensures.seats
     ∙ sym (ap (range_with_len 0) c.in-Ok.ensures.put.1)
 
 pub run_pool-requires-clause-ends : goal.run_pool-requires-clause-ends
-run_pool-requires-clause-ends g c _ =
+run_pool-requires-clause-ends g c _ _ =
     subst (All (IsFresh c.in-Ok.made.2.intake)) (sym c.at-posts.ensures.ends) c.in-Ok.ensures.ends
 
 pub run_pool-requires-clause-batches : goal.run_pool-requires-clause-batches
-run_pool-requires-clause-batches g c _ =
+run_pool-requires-clause-batches g c _ _ =
     subst (All (HasBatchFor (g.L.BoardName.rules.parked + 1))) (sym c.at-posts.ensures.rooms) c.in-Ok.ensures.batches
 
 pub run_pool-requires-clause-own : goal.run_pool-requires-clause-own
-run_pool-requires-clause-own g c _ =
+run_pool-requires-clause-own g c _ _ =
     let by : ℕ → Appended ReplyEntry = λ author. record { author = author; count = 0; own = [] } in
     c.appender-own.ensures.fresh ∙ sym (ap by c.in-Ok.ensures.put.1)
 
