@@ -360,7 +360,12 @@ def ends(end, told, more, workers, way):
 def try_ends():
     """A session with a lock and a request that waits for it, with each end. The request gets no reply."""
     every = [(*end, *how) for end in ENDS for how in EVERY_WAY if "pieces" not in how or end not in ENDS[:2]]
-    return f"{len(each(ends, every))} sessions"
+    # A server that another thread starts has a copy of the client's socket until it runs. So nothing else is started while a client closes unread.
+    alone = [it for it in every if it[0] is closes_before_it_is_answered]
+    each(ends, [it for it in every if it not in alone])
+    for it in alone:
+        ends(*it)
+    return f"{len(every)} sessions"
 
 
 def try_a_client_that_goes_in_the_middle():
