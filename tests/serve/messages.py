@@ -5,6 +5,8 @@ Most stand in `tests/cases/messages.txt`, laid out by hand from `fuse.h`. `tries
 import itertools
 import struct
 import sys
+import threading
+from concurrent.futures import ThreadPoolExecutor
 
 from tests import fuse
 from tests import tries
@@ -161,21 +163,38 @@ def refused_and_locks():
     return [*refused(before_an_init(), 1000), agreed, (create(2), create_reply(2, 2, *FILE, 1)), *late, (destroy(4000, bytes(8)), reply(4000))]
 
 
+def sends_all(client, talk, made):
+    """Sends all messages, those behind the CREATE once its file is made, because locks need it."""
+    for sent, _ in talk:
+        client.send(sent)
+        if sent == create(2):
+            made.wait(tries.PATIENCE)
+
+
 def try_refused_messages():
     """Each gets its one reply, or none if its kind has none, before the next is sent or with all others. The locks between them are all set."""
     talk = refused_and_locks()
-    wanted = [it for _, it in talk if it]
+    wanted, created = [it for _, it in talk if it], dict(talk)[create(2)]
     for workers in 1, 4:
         for one_by_one in True, False:
-            server, came = Server(workers=workers), []
-            with Client(server) as client:
-                for sent, told in talk:
-                    client.send(sent)
-                    # The reply to the CREATE is waited for, because locks need its file.
-                    while told and (one_by_one or sent == create(2)) and (not came or unique_of(came[-1]) != unique_of(sent)):
-                        came.append(client.next())
-                        assert came[-1], f"no reply to {sent.hex()}"
-                came += client.rest()
+            server, came, made = Server(workers=workers), [], threading.Event()
+            with Client(server) as client, ThreadPoolExecutor(1) as pool:
+                if one_by_one:
+                    for sent, told in talk:
+                        client.send(sent)
+                        while told and (not came or unique_of(came[-1]) != unique_of(sent)):
+                            came.append(client.next())
+                            assert came[-1], f"no reply to {sent.hex()}"
+                    came += client.rest()
+                else:
+                    # Replies are read meanwhile: the server reads no more once nobody takes them.
+                    sending = pool.submit(sends_all, client, talk, made)
+                    while it := client.next():
+                        came.append(it)
+                        if it == created:
+                            made.set()
+                    made.set()
+                    sending.result()
             in_order = (sorted(it, key=unique_of) if workers > 1 and not one_by_one else it for it in (came, wanted))
             differ = [(it, other) for it, other in itertools.zip_longest(*in_order) if it != other]
             assert not differ, (workers, one_by_one, len(came), len(wanted), differ[:3])
