@@ -1,4 +1,4 @@
--- The arenas that hold a core.
+-- The arenas that hold what is there.
 use Rattle.std.specs.Prelude.{◌≡◌, map}
 use Rattle.fl_dir.specs.Arenas.{bare, values_on}
 use Rattle.fl_dir.specs.Linked as dir
@@ -15,7 +15,7 @@ pub record AreLinked (a : Arenas) : Type 0 where
   pub locks : rows.AreLinked a.locks.now
   pub parked : IsLinked a.parked.now
 
--- what stands in the arenas is what is there
+-- what stands in the arenas is what is there: nodes, open files, locks, and parked requests in the order of asking
 pub record Hold (a : Arenas) (p : Snapshot) : Type 0 where
   pub nodes : bare (values_on a.directory.nodes.now) ≡ p.view.directory.nodes
   pub files : values_on a.directory.files.now ≡ p.view.directory.files
