@@ -1,4 +1,4 @@
-use Rattle.std.proofs.Common.{◌≡◌, ap, ◌∙◌}
+use Rattle.std.proofs.Common.{ap, ◌∙◌}
 use Rattle.fl_core.specs.State.{Snapshot}
 use Rattle.fl_core.proofs.state.Core.arenas.Goals as goal
 
