@@ -343,6 +343,15 @@ impl<T: Copy> Arena<T> {
         self.free
     }
 
+    /// What each arena keeps, whatever was done with it. It changes nothing: whoever lends an arena calls it, to promise
+    /// the same.
+    pub fn keeps_links(&self)
+        ensures { IsLinked self.now }
+    {
+        // A proof learns what a type keeps where a field is read.
+        let _free = self.free;
+    }
+
     /// Where the slot is. This walks along its chain.
     pub fn place(&self, slot: usize) -> Place
         requires { slot < self.now.slots }

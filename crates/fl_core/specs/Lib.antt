@@ -1,3 +1,4 @@
+pub mod Arenas
 pub mod Codes
 pub mod Effects
 pub mod First

@@ -11,11 +11,15 @@
 //! - A FLUSH takes away all record locks of its owner on the node, and no whole-file lock. A RELEASE takes away its
 //!   owner's whole-file lock if it says so, and all locks of the node if no fh is open there any more.
 //!
+//! All that is there stands in six arenas, and no slot of them is linked twice, or free while it is linked
+//! (`Core::arenas`).
+//!
 //! `Core::replay` is for a second core that follows a first: a lock request is carried out by its reply, and no test is
 //! made again. Contracts let through a `replay` that makes all tests, and a `Tolds::new` that is always refused, or has
 //! more room than its rules want; tests refuse the latter.
 #![tactic(auto)]
 
+mod arenas;
 mod ending;
 pub mod laws;
 mod locking;
@@ -25,6 +29,7 @@ mod settling;
 mod state;
 mod tolds;
 
+pub use arenas::Arenas;
 pub use fl_waiting::{Request, Rules};
 pub use state::Core;
 pub use tolds::Tolds;

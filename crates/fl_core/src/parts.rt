@@ -1,6 +1,6 @@
 //! What a core consists of, and what an order changes in it before parked requests are settled.
 
-ghost use Rattle.std.specs.Prelude.{◌≡◌, ◌≤◌, ◌↔◌, ◌+◌, ◌++◌, true, false, length, IfOk, IsSome};
+ghost use Rattle.std.specs.Prelude.{◌≡◌, ◌≤◌, ◌↔◌, ◌+◌, ◌++◌, min, true, false, length, IfOk, IsSome};
 ghost use Rattle.std.specs.List.{AllByRecursion};
 ghost use Rattle.fl_core.specs.Effects.{by_reply, flushed, listing_replied, released, made};
 ghost use Rattle.fl_core.specs.Inside.Parts.{left_by, with_parked};
@@ -216,7 +216,8 @@ impl Parts {
 // nothing, but at least 256, and at most 32,768.
 fn chains_for(files: u32) -> u32
     requires { files ≤ 65536 }
-    ensures some { 1 ≤ result }
+    ensures some { 256 ≤ result }
+    ensures enough { min files 32768 ≤ result }
     ensures few { result ≤ 32768 }
 {
     files.next_power_of_two().clamp(256, 32_768)

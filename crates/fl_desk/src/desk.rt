@@ -3,6 +3,7 @@
 ghost use Rattle.std.specs.Prelude.{◌≡◌, ◌≤◌, ◌+◌, ◌++◌, [], length, IfOk, IsOk, OnOk, OnErr, IsTrue};
 ghost use mathlib.Core.List.{IsPrefix};
 ghost use Rattle.fl_desk.specs.Replay.{state_after};
+ghost use Rattle.fl_core.specs.Arenas.{AreLinked, Hold};
 ghost use Rattle.fl_core.specs.State.{opening, snapshot_of};
 ghost use Rattle.fl_core.specs.Step.{next, replies_in};
 ghost use Rattle.fl_core.specs.Tolds.{HasRoom};
@@ -11,7 +12,7 @@ ghost use Rattle.fl_desk.specs.Kept.{IsKept, opening_book};
 ghost use Rattle.fl_desk.specs.Stored.{IsStored};
 ghost use Rattle.fl_waiting.specs.Waiting.{is_parked};
 
-use fl_core::{Core, Rules, Tolds};
+use fl_core::{Arenas, Core, Rules, Tolds};
 use fl_history::{History, Journal, Lines};
 use fl_order::{NoMemory, Order, Told};
 use std::alloc::Global;
@@ -98,6 +99,14 @@ impl<J: Journal> Desk<J> {
         ensures kept { IsKept self.now.lines self.now.present }
     {
         self.present.parked().has(unique)
+    }
+
+    /// The arenas that hold what is there.
+    pub fn arenas(&self) -> Arenas<'_>
+        ensures hold { Hold result self.now.present }
+        ensures linked { AreLinked result }
+    {
+        self.present.arenas()
     }
 
     /// Takes an order of a worker: records it, answers it, and hands out the replies that it records. A refusal

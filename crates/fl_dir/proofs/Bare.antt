@@ -12,7 +12,7 @@ use Rattle.std.specs.FinMap.Entries as rising
 use Rattle.fl_dir.specs.declared.node.Node.{Node}
 use Rattle.fl_dir.specs.declared.nodes.Slot.{Slot}
 use Rattle.fl_dir.specs.Changes.{set_at, changed_at}
-use Rattle.fl_dir.specs.Inside.Kept.{bare}
+use Rattle.fl_dir.specs.Arenas.{bare}
 use Rattle.fl_dir.proofs.Entries.{truth, found_at}
 use Rattle.fl_dir.proofs.Spread.{same_key}
 

@@ -19,9 +19,10 @@ use Rattle.fl_dir.specs.declared.nodes.Slot.{Slot}
 use Rattle.fl_dir.specs.Directory.{Listing, is_named}
 use Rattle.fl_dir.specs.OpenFiles.{has_open_file}
 use Rattle.fl_dir.specs.Changes.{set_at, changed_at}
-use Rattle.fl_dir.specs.Inside.Kept.{bare, link_name, name_in, open_in, hash_of, hash_on, has_name, open_count, AreNamed, IsKept}
+use Rattle.fl_dir.specs.Arenas.{bare, values_on}
+use Rattle.fl_dir.specs.Inside.Kept.{link_name, name_in, open_in, hash_of, hash_on, has_name, open_count, AreNamed, IsKept}
 use Rattle.fl_dir.specs.Inside.Numbers.{Numbers}
-use Rattle.fl_dir.specs.Inside.Spread.{at, values_on, IsAltered}
+use Rattle.fl_dir.specs.Inside.Spread.{at, IsAltered}
 use Rattle.fl_dir.proofs.Entries.{truth, tied}
 use Rattle.fl_dir.proofs.Spread.{own_key, same_key, counted, some_on, unaltered, none_at, none_sorted, chains_made}
 use Rattle.fl_dir.proofs.Bare.{get_bare, none_found, find_none, find_nothing, find_one, found_passes}

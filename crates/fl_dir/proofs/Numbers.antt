@@ -10,7 +10,8 @@ use Rattle.std.specs.Ordering.{nat_cmp}
 use Rattle.std.specs.FinMap as map
 use Rattle.fl_arena.specs.Chains.{Chains, item_count}
 use Rattle.fl_dir.specs.Inside.Numbers.{Numbers, AreNumbered}
-use Rattle.fl_dir.specs.Inside.Spread.{at, values_on, IsAltered}
+use Rattle.fl_dir.specs.Arenas.{values_on}
+use Rattle.fl_dir.specs.Inside.Spread.{at, IsAltered}
 use Rattle.fl_dir.proofs.Spread.{none_of, some_of, counted, get_only, each_altered, none_at, none_sorted, chains_made}
 
 module _ {X : Type 0} where

@@ -13,7 +13,8 @@ use Rattle.std.specs.Cmp.{nat_cmp_total}
 use Rattle.std.specs.FinMap as map
 use Rattle.std.specs.FinMap.Entries as rising
 use Rattle.fl_arena.specs.Chains.{Entry, Chains, items, item_count}
-use Rattle.fl_dir.specs.Inside.Spread.{at, joined, values_on, AreSorted, IsEach, IsAltered}
+use Rattle.fl_dir.specs.Arenas.{joined, values_on}
+use Rattle.fl_dir.specs.Inside.Spread.{at, AreSorted, IsEach, IsAltered}
 use Rattle.fl_dir.proofs.Entries.{head_below, rest_sorted, none_above}
 
 pub none_of : {A : Type 0} (o : Option A) → ((x : A) → o ≡ Some x → ⊥) → o ≡ None

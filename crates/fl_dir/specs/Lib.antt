@@ -1,7 +1,9 @@
+pub mod Arenas
 pub mod Changes
 pub mod Codes
 pub mod Directory
 pub mod Inside
+pub mod Linked
 pub mod Naming
 pub mod OpenFiles
 pub mod Replies

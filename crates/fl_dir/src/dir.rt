@@ -66,7 +66,8 @@ impl Model for Dir {
     ghost use Rattle.std.specs.Prelude.{◌≡◌};
     ghost use Rattle.fl_dir.specs.Directory.{Listing};
     ghost use Rattle.fl_dir.specs.Codes.{listing_code};
-    ghost use Rattle.fl_dir.specs.Inside.Kept.{bare, IsKept};
+    ghost use Rattle.fl_dir.specs.Arenas.{bare};
+    ghost use Rattle.fl_dir.specs.Inside.Kept.{IsKept};
 
     ghost Value = { Listing };
 

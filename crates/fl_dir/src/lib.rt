@@ -6,6 +6,7 @@
 //! `tests/locks/directory.py` has the others.
 #![tactic(auto)]
 
+mod arenas;
 mod chain;
 mod dir;
 mod files;
@@ -17,5 +18,7 @@ mod numbered;
 #[cfg(test)]
 mod tests;
 
+pub use arenas::DirArenas;
 pub use dir::{Closed, Dir, MOST_FILES, MOST_OPEN, ROOT};
 pub use node::Node;
+pub use nodes::Slot;

@@ -13,11 +13,13 @@ use crate::node::Node;
 use crate::numbered::chain_of;
 use fl_order::Name;
 
-/// How many fhs are open on a node, and the node.
+/// What a directory keeps under the number of a node.
 #[derive(Clone, Copy)]
-pub(crate) struct Slot {
-    pub(crate) fhs: u32,
-    pub(crate) node: Node,
+pub struct Slot {
+    /// How many fhs are open on the node.
+    pub fhs: u32,
+    /// The node.
+    pub node: Node,
 }
 
 impl Slot {

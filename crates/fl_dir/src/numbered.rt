@@ -3,7 +3,10 @@ ghost use Rattle.std.specs.Prelude.{◌≡◌, ◌+◌, ◌≤◌, ◌^◌, ℕ,
 ghost use Rattle.std.specs.FinMap as map;
 ghost use Rattle.std.specs.Option.{option_copied};
 ghost use Rattle.std.specs.Borrow.{Lends, sem};
+ghost use Rattle.std.specs.Int.{IsPowerOfTwo};
 ghost use Rattle.std.specs.Int.Bits.{bit_and};
+ghost use Rattle.fl_arena.specs.Chains.{IsLinked};
+ghost use Rattle.fl_dir.specs.Arenas.{values_on};
 ghost use Rattle.fl_dir.specs.Inside.Numbers.{is_full, with_value};
 
 use crate::chain::{push, seek, take_out, value_at};
@@ -23,7 +26,7 @@ pub(crate) struct Numbered<T: Copy> {
 }
 
 impl<T: Copy> Model for Numbered<T> {
-    ghost use Rattle.fl_dir.specs.Inside.Spread.{values_on};
+    ghost use Rattle.fl_dir.specs.Arenas.{values_on};
     ghost use Rattle.fl_dir.specs.Inside.Numbers.{Numbers, numbers_code, AreNumbered};
 
     ghost Value = { Numbers T };
@@ -38,14 +41,12 @@ impl<T: Copy> Model for Numbered<T> {
 /// How many chains there are for so many values: a power of two, at least so many and at least 256.
 pub(crate) fn chains_for(limit: usize) -> usize
     requires { limit ≤ 2 ^ 16 }
-    ensures least { 1 ≤ result }
+    ensures power { IsPowerOfTwo result }
+    ensures enough { limit ≤ result }
+    ensures least { 256 ≤ result }
     ensures most { result ≤ 2 ^ 16 }
 {
-    let mut chains = 65_536usize;
-    while chains > 256 && chains / 2 >= limit {
-        chains /= 2;
-    }
-    chains
+    limit.next_power_of_two().clamp(256, 65_536)
 }
 
 /// The chain of a number or a hash: its low bits.
@@ -87,6 +88,15 @@ impl<T: Copy> Numbered<T> {
             None => unreachable!(),
             Some(value) => value,
         }
+    }
+
+    /// The arena that holds the values, each under its number.
+    pub(crate) fn arena(&self) -> &Arena<(u64, T)>
+        ensures values { values_on result.now ≡ self.now.values }
+        ensures linked { IsLinked result.now }
+    {
+        self.entries.keeps_links();
+        &self.entries
     }
 
     /// Whether so many values are there as there may be, or all numbers are given.

@@ -28,6 +28,7 @@ pub mod OwnerConflicts
 pub mod Speaking
 pub mod Places
 pub mod ContenderRows
+pub mod ContenderOwners
 pub mod ContenderNearest
 pub mod ContenderConflicts
 pub mod ContenderMarks

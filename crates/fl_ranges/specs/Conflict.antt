@@ -1,6 +1,6 @@
 -- Which locks conflict with each other (POSIX.1-2017 `fcntl`; Linux `flock(2)`).
-use Rattle.std.specs.Prelude.{◌≡◌, ◌≢◌, ℕ, ◌≤◌, ◌<◌, Bool, true, false, not, ◌&&◌, ◌||◌, ◌==◌, nat_le, Some, List}
-use Rattle.std.specs.Prelude.{length, slice_index_or}
+use Rattle.std.specs.Prelude.{◌≡◌, ◌≢◌, ℕ, ◌≤◌, ◌<◌, Bool, true, false, not, ◌&&◌, ◌||◌, ◌==◌, nat_le, Option, Some}
+use Rattle.std.specs.Prelude.{None, List, length, slice_index_or}
 use Rattle.std.specs.List.{list_any}
 use Rattle.std.specs.FinMap.{entries, get}
 use Rattle.fl_ranges.specs.declared.lock.Kind.{Kind}
@@ -55,6 +55,23 @@ owner_conflicts m key start end kind owner = list_any (mark_conflicts_by key sta
 pub record IsOwnerConflict (m : Marking) (key : Key) (start end : ℕ) (kind : Kind) (owner : ℕ) : Type 0 where
   pub conflict : IsConflict m key start end kind
   pub of : conflict.contender.owner ≡ owner
+
+-- an owner is greater than the one that is given; each is if none is
+abbrev pub IsAfter : Option ℕ → ℕ → Type 0
+IsAfter None owner = Unit {0}
+IsAfter (Some given) owner = given < owner
+
+-- there is one, and it isn't greater than this owner
+abbrev pub IsAtMost : Option ℕ → ℕ → Type 0
+IsAtMost None owner = ⊥
+IsAtMost (Some told) owner = told ≤ owner
+
+-- the least owner that conflicts, of those greater than the one that is given; none if no such owner does
+pub record IsLeastAfter (m : Marking) (key : Key) (start end : ℕ) (kind : Kind) (after told : Option ℕ) : Type 0 where
+  pub itself : (owner : ℕ) → told ≡ Some owner →
+      IsAfter after owner × (owner_conflicts m key start end kind owner ≡ true)
+  pub least : (owner : ℕ) → IsAfter after owner → owner_conflicts m key start end kind owner ≡ true →
+      IsAtMost told owner
 
 -- the places of those owners who pass a test are set, and what was set before
 abbrev pub AreFound : (ℕ → Bool) → List ℕ → List Bool → List Bool → Type 0

@@ -9,3 +9,4 @@ pub mod LockTable
 pub mod Placing
 pub mod Layout
 pub mod Inside
+pub use Rattle.fl_spans.specs.Rows

@@ -25,6 +25,7 @@ mod run;
 mod table;
 
 pub use fl_arena::Place;
+pub use fl_spans::{Rows, Span};
 pub use held::Held;
 pub use lock::{Class, Key, Kind, LAST_BYTE, Mark, Range};
 pub use run::Run;

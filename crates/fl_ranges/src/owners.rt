@@ -1,5 +1,5 @@
-//! Which of some owners have locks that conflict with one that is asked for.
-ghost use Rattle.std.specs.Prelude.{◌≡◌, ◌≤◌, ◌<◌, ◌||◌, ℕ, false, IsSome, is_some, length, slice_index_or};
+//! The owners whose locks conflict with one that is asked for: one after another, or all that are asked for at once.
+ghost use Rattle.std.specs.Prelude.{◌≡◌, ◌≤◌, ◌<◌, ◌||◌, ℕ, false, None, IsSome, is_some, length, slice_index_or};
 ghost use Rattle.std.specs.List.{find, list_any};
 ghost use Rattle.std.specs.List.Sorted.{IsNonDecreasing};
 ghost use Rattle.fl_spans.specs.Rows.{rows, chain_count, IsRow};
@@ -7,7 +7,7 @@ ghost use Rattle.fl_spans.specs.Row.{spans_at};
 ghost use Rattle.fl_spans.specs.Spans.{AreSpans};
 ghost use Rattle.fl_ranges.specs.Conflict.{AreFound};
 ghost use Rattle.fl_ranges.specs.Inside.LockRows.{table_runs, AreLockRows};
-ghost use Rattle.fl_ranges.specs.Inside.Owners.{run_conflicts_by};
+ghost use Rattle.fl_ranges.specs.Inside.Owners.{is_after, least_from, run_conflicts_by};
 ghost use Rattle.fl_ranges.specs.Inside.Contenders.{span_conflicts};
 
 use crate::asked::{all_set, set_all, skip_less, skip_same};
@@ -17,7 +17,21 @@ use crate::table::Table;
 use fl_spans::{Cursor, Rows, Span};
 
 impl Table {
-    ghost use Rattle.fl_ranges.specs.Conflict.{owner_conflicts};
+    ghost use Rattle.fl_ranges.specs.Conflict.{owner_conflicts, IsLeastAfter};
+
+    /// The least owner with a lock that conflicts with one of this kind, of those owners that are greater than the
+    /// one that is given; of all if none is given. None if no such owner has one.
+    pub fn conflicting_owner_after(
+        &self,
+        key: &Key,
+        range: &Range,
+        kind: Kind,
+        after: Option<u64>,
+    ) -> Option<u64>
+        ensures { IsLeastAfter self.now.marking key.now range.now.start range.now.end kind after result }
+    {
+        least_after(&self.rows, key, range, kind, after)
+    }
 
     /// Finds those of these owners who have a lock that conflicts with one of this kind, in one walk along the owners
     /// of the node: `found` is set at the place of each. What is set already stays, and isn't asked for again. The
@@ -37,6 +51,43 @@ impl Table {
     {
         find_among(&self.rows, key, range, kind, owners, found);
     }
+}
+
+// Whether an owner is greater than the one that is given.
+fn is_after(after: Option<u64>, owner: u64) -> bool
+    ensures { result ≡ is_after after owner }
+{
+    match after {
+        None => true,
+        Some(given) => given < owner,
+    }
+}
+
+// The least owner that has a lock which conflicts with one of this kind, by this key, on the range, of those greater
+// than the one that is given. The rows stand in the order of their owners, so it is that of the first row that has
+// one.
+fn least_after(
+    table: &Rows<Key, Span<Mark>>,
+    key: &Key,
+    range: &Range,
+    kind: Kind,
+    after: Option<u64>,
+) -> Option<u64>
+    requires chains { 1 ≤ chain_count table.now }
+    requires kept { (c : ℕ) → AreLockRows (chain_count table.now) c (rows table.now c) }
+    ensures { result
+        ≡ least_from key.now range.now.start range.now.end kind after None (table_runs table.now) }
+{
+    let mut row = first_of_class(table, key);
+    while let Some(owner) = owner_at(table, key, &row) {
+        if is_after(after, owner)
+            && conflicting_span(table, &row, owner, key, range, kind).is_some()
+        {
+            return Some(owner);
+        }
+        table.next_row(&mut row);
+    }
+    None
 }
 
 // Sets the places of those of these owners who have a lock which conflicts with one of this kind, by this key, on the

@@ -2,7 +2,7 @@
 ghost use Rattle.std.specs.Prelude.{◌≡◌, ◌≢◌, ◌≤◌, ◌<◌, ◌↔◌, ℕ, false, Option, Some, None, IfOk, IsErr, OnOk, OnErr};
 ghost use Rattle.std.specs.FinMap as map;
 ghost use Rattle.std.specs.List.{AllByRecursion};
-ghost use Rattle.fl_spans.specs.Rows.{rows, limit_of, chain_count};
+ghost use Rattle.fl_spans.specs.Rows.{rows, limit_of, chain_count, AreLinked};
 
 use crate::conflict::some_conflicts;
 use crate::lock::{Class, Key, Kind, LAST_BYTE, Mark, Range};
@@ -19,8 +19,8 @@ const _: () = prove!(size_of::<Span<Mark>>() == 24);
 
 /// The locks that are held, as runs of bytes in a fixed number of slots: one row of runs for each key that has a mark.
 ///
-/// Contracts see how many runs there is room for, on how many chains they stand, and the mark of each byte. No call
-/// but `new` takes memory.
+/// Contracts see how many runs there is room for, on how many chains they stand, and the mark of each byte. Only `new`
+/// and `held_runs` take memory.
 pub struct Table {
     pub(crate) rows: Rows<Key, Span<Mark>>,
     limit: u32,
@@ -164,7 +164,9 @@ impl Table {
         ensures limit { limit_of result.now ≡ self.now.limit }
         ensures chains { chain_count result.now ≡ self.now.chains }
         ensures homes { (c : ℕ) → AllByRecursion (λ r. home self.now.chains r.key.node ≡ c) (rows result.now c) }
+        ensures linked { AreLinked result.now }
     {
+        self.rows.keeps_links();
         &self.rows
     }
 

@@ -2,7 +2,7 @@
 use Rattle.std.specs.Prelude.{◌≡◌, ℕ, zero, suc, ◌+◌, ◌-◌, ◌≤◌, ◌<◌, List, [], ◌∷◌, ◌++◌, map, length}
 use Rattle.std.specs.Prelude.{take, drop, sum_by, Option, Some}
 use Rattle.std.specs.Prelude.{None, slice_index_or}
-use Rattle.fl_arena.specs.Chains.{Entry, Chains, entries, items}
+use Rattle.fl_arena.specs.Chains.{Entry, Chains, entries, items, IsLinked}
 use Rattle.fl_arena.specs.Cursors.{cursor_at}
 use Rattle.fl_arena.specs.declared.cursors.Cursor.{Cursor}
 use Rattle.fl_spans.specs.declared.rows.Head.{Head}
@@ -91,6 +91,11 @@ module _ {K R : Type 0} where
     pub chain : row.chain < chain_count v
     pub at : row ≡ row_cursor v row.chain row.index
     pub within : row.index ≤ length (rows v row.chain)
+
+  -- in both arenas no slot is linked twice, and none is free while it is linked
+  pub record AreLinked (v : RowChains K R) : Type 0 where
+    pub heads : IsLinked v.heads
+    pub runs : IsLinked v.runs
 
 module _ {R : Type 0} where
   -- a list of the item that there is, or of none

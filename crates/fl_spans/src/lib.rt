@@ -3,7 +3,7 @@
 //! A `Rows` has a number of chains, each a list of rows; a row is a key and at least one run. Keys, runs and marks
 //! are the user's own types, and so is their order. A span is a run of bytes from a start to an end, both included,
 //! that carry one mark. The spans of a row stand in order, apart, and each is as long as it can be. Memory is taken
-//! once, by `Rows::new`.
+//! once, by `Rows::new`. In both arenas no slot is linked twice (`Rows::keeps_links`).
 //!
 //! Left open: which slot has which run, which head has which chain, and how many spans a walk looks at. A `find` that
 //! goes on after the range gives the same answer. `tests/locks/ranges.py` compares the locks of the built program with a

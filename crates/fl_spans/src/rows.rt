@@ -7,7 +7,7 @@ ghost use Rattle.fl_arena.specs.Chains.{entries, item_count, slot_at, HasSizeOf}
 ghost use Rattle.fl_arena.specs.Cursors.{IsInPlace};
 ghost use Rattle.fl_spans.specs.Inside.Kept.{has_number};
 ghost use Rattle.fl_spans.specs.Rows.{row_lists, rows, keys, runs_at, chain_count, limit_of, run_count};
-ghost use Rattle.fl_spans.specs.Rows.{row_cursor, run_cursor, IsRow};
+ghost use Rattle.fl_spans.specs.Rows.{row_cursor, run_cursor, IsRow, AreLinked};
 
 use fl_arena::{Arena, Cursor, Place};
 use std::alloc::{AllocError, Global};
@@ -180,6 +180,14 @@ impl<K: Copy, R: Copy> Rows<K, R> {
         ensures { (c i j : ℕ) → run.old ≡ run_cursor self.now c i j → run.new ≡ run_cursor self.now c i (j + 1) }
     {
         self.runs.step(run);
+    }
+
+    /// What all rows keep of their two arenas. It changes nothing.
+    pub fn keeps_links(&self)
+        ensures { AreLinked self.now }
+    {
+        self.heads.keeps_links();
+        self.runs.keeps_links();
     }
 
     /// How many more runs there is room for.

@@ -3,3 +3,4 @@ pub mod Inside
 pub mod Limits
 pub mod LockRequest
 pub mod Waiting
+pub use Rattle.fl_arena.specs.Chains

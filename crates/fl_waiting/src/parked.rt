@@ -3,7 +3,7 @@
 ghost use Rattle.std.specs.Prelude.{◌≡◌, ◌==◌, ◌↔◌, ◌≤◌, ◌<◌, ◌%◌, ◌++◌, ◌∷◌, [], nat_le, Bool, true, false, None};
 ghost use Rattle.std.specs.Prelude.{Some, IfOk, MatchOption, length, map, take};
 ghost use Rattle.std.specs.List.{list_any, AllByRecursion};
-ghost use Rattle.fl_arena.specs.Chains.{items};
+ghost use Rattle.fl_arena.specs.Chains.{items, IsLinked};
 ghost use Rattle.fl_arena.specs.Cursors.{Tests, cursor_at};
 ghost use Rattle.fl_waiting.specs.Inside.Claims.{requests_of, ruled, IsFirstBehind};
 ghost use Rattle.fl_waiting.specs.Inside.Searching.{meant};
@@ -178,6 +178,15 @@ impl Parked {
         ensures { IfOk result (λ claims. map (λ (claim : Claim). claim.request) claims.items ≡ self.now) }
     {
         copied(alloc, &self.claims)
+    }
+
+    /// The arena that holds the requests, the oldest first.
+    pub fn arena(&self) -> &Arena<Claim>
+        ensures requests { map (λ (claim : Claim). claim.request) (items result.now 0) ≡ self.now }
+        ensures linked { IsLinked result.now }
+    {
+        self.claims.keeps_links();
+        &self.claims
     }
 
     /// Whether some request goes, under fair rules, before one for this lock which is younger.

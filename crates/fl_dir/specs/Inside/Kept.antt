@@ -1,11 +1,11 @@
 -- How a directory is kept: each node with a count of its open files, and the linked nodes by hashes of their names.
 use Rattle.std.specs.Prelude.{◌≡◌, ℕ, ◌+◌, ◌*◌, ◌≤◌, ◌^◌, ◌%◌, ◌==◌, bit_xor, count_by, Bool, false, not, Option}
 use Rattle.std.specs.Prelude.{Some, None, List}
-use Rattle.std.specs.Prelude.{map, length, if◌then◌else◌}
+use Rattle.std.specs.Prelude.{length, if◌then◌else◌}
 use Rattle.std.specs.List.{fold}
 use Rattle.std.specs.Ordering.{nat_cmp}
 use Rattle.std.specs.Int.Bits.{bit_and}
-use Rattle.std.specs.FinMap.{FinMap, get, entries, from_sorted}
+use Rattle.std.specs.FinMap.{FinMap, get, entries}
 use Rattle.fl_arena.specs.Chains.{Chains}
 use Rattle.fl_dir.specs.declared.node.Node.{Node}
 use Rattle.fl_dir.specs.declared.nodes.Slot.{Slot}
@@ -22,10 +22,6 @@ hashed hash byte = bit_xor hash byte * 16777619 % 2 ^ 32
 -- the hash of a name (FNV-1a: the first value of its 32 bits)
 unfoldable pub hash_of : List ℕ → ℕ
 hash_of name = fold hashed 2166136261 name
-
--- the nodes without their counts
-abbrev pub bare : FinMap nat_cmp Slot → FinMap nat_cmp Node
-bare slots = from_sorted (map (λ e. (e.0, e.1.node)) (entries slots))
 
 -- the name under which a node is linked, if it is
 abbrev pub link_name : Node → Option (List ℕ)

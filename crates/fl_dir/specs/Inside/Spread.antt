@@ -1,22 +1,13 @@
 -- How values are kept under numbers: on several chains, each number on one of them. The numbers of a chain rise.
-use Rattle.std.specs.Prelude.{◌≡◌, ◌≢◌, ℕ, true, Option, Some, List, [], ◌∷◌, ◌++◌, map, if◌then◌else◌}
+use Rattle.std.specs.Prelude.{◌≡◌, ◌≢◌, ℕ, true, Option, Some, if◌then◌else◌}
 use Rattle.std.specs.Ordering.{nat_cmp, eq_by_cmp}
-use Rattle.std.specs.FinMap.{FinMap, from_entries, is_sorted, find}
-use Rattle.fl_arena.specs.Chains.{Entry, Chains, entries, items, HasSizeOf}
+use Rattle.std.specs.FinMap.{is_sorted, find}
+use Rattle.fl_arena.specs.Chains.{Chains, entries, items, HasSizeOf}
 
 module _ {X : Type 0} where
   -- what a chain has at a number
   abbrev pub at : Chains (ℕ × X) → ℕ → ℕ → Option X
   at a c q = find nat_cmp q (items a c)
-
-  -- the items of all chains, one chain after another
-  abbrev pub joined : List (List (Entry (ℕ × X))) → List (ℕ × X)
-  joined [] = []
-  joined (es ∷ rest) = map (λ e. e.item) es ++ joined rest
-
-  -- the values of all chains, by number
-  abbrev pub values_on : Chains (ℕ × X) → FinMap nat_cmp X
-  values_on a = from_entries (joined a.chains)
 
   -- the numbers of each chain rise
   abbrev pub AreSorted : Chains (ℕ × X) → Type 0

@@ -110,12 +110,22 @@ fn contenders(
     found
 }
 
+// The owner in the way of owner 6 that comes after another one.
+fn next(rt: &impl Abort, table: &Table, kind: Kind, after: Option<u64>, wanted: Option<u64>) {
+    let told = table.conflicting_owner_after(&key(6), &range(rt, 0, 9), kind, after);
+    same(rt, &told, &wanted);
+}
+
 #[test]
 fn owners_in_the_way_are_found(rt: HostRuntime) {
     let mut table = Table::new(rt.alloc(), 8, 256).expect(&rt, "memory");
     put(&rt, &mut table, 8, 7, 8, WRITE);
     put(&rt, &mut table, 3, 0, 3, READ);
     put(&rt, &mut table, 6, 4, 5, READ);
+    next(&rt, &table, Kind::Write, None, Some(3));
+    next(&rt, &table, Kind::Write, Some(3), Some(8));
+    next(&rt, &table, Kind::Write, Some(8), None);
+    next(&rt, &table, Kind::Read, None, Some(8));
     let owners = [3, 6, 8, 8];
     let told = contenders(&rt, &table, Kind::Write, owners, [false; 4]);
     same(&rt, &told, &[true, false, true, true]);

@@ -1,0 +1,23 @@
+-- The arenas that hold what is there.
+use Rattle.std.specs.Prelude.{◌≡◌, map}
+use Rattle.fl_dir.specs.Arenas.{bare, values_on}
+use Rattle.fl_dir.specs.Linked as dir
+use Rattle.fl_ranges.specs.Layout.{marking_in}
+use Rattle.fl_ranges.specs.Rows as rows
+use Rattle.fl_waiting.specs.Chains.{IsLinked, items}
+use Rattle.fl_waiting.specs.declared.claim.Claim.{Claim}
+use Rattle.fl_core.specs.State.{Snapshot}
+use Rattle.fl_core.specs.declared.arenas.Arenas.{Arenas}
+
+-- in each of the six arenas no slot is linked twice, and none is free while it is linked
+pub record AreLinked (a : Arenas) : Type 0 where
+  pub directory : dir.AreLinked a.directory
+  pub locks : rows.AreLinked a.locks.now
+  pub parked : IsLinked a.parked.now
+
+-- what stands in the arenas is what is there: nodes, open files, locks, and parked requests in the order of asking
+pub record Hold (a : Arenas) (p : Snapshot) : Type 0 where
+  pub nodes : bare (values_on a.directory.nodes.now) ≡ p.view.directory.nodes
+  pub files : values_on a.directory.files.now ≡ p.view.directory.files
+  pub locks : marking_in a.locks.now ≡ p.marking
+  pub parked : map (λ (claim : Claim). claim.request) (items a.parked.now 0) ≡ p.view.parked
