@@ -10,7 +10,7 @@ use Rattle.fl_ranges.specs.declared.lock.Mark.{Mark}
 use Rattle.fl_ranges.specs.declared.held.Held.{Held}
 use Rattle.fl_ranges.specs.Marking.{Spot, Marking}
 use Rattle.fl_ranges.specs.Conflict.{conflicts, IsConflict}
-use Rattle.fl_ranges.specs.Blocker.{of_owner, IsConflicting, IsRow, IsBlocker, first_conflicting, row_start, row_end}
+use Rattle.fl_ranges.specs.Blocker.{of_owner, IsConflicting, IsRunAt, IsBlocker, first_conflicting, run_start, run_end}
 use Rattle.fl_ranges.specs.Blocker.{lock_around, blocker}
 use Rattle.fl_ranges.proofs.ConflictWords.{conflict_words}
 use Rattle.fl_ranges.proofs.BlockersRows.{at_most, row_around, same_start, same_end}
@@ -29,7 +29,7 @@ module _ (m : Marking) (key : Key) (start end : ℕ) (kind : Kind) where
         conflicting = f.conflicting;
         least_byte = f.least_byte;
         least_owner = f.least_owner;
-        row = subst (λ (k : Key). IsRow m (of_owner key e.0.0.owner) e.1 e.0.1 (row_start m k e.1 e.0.1) (row_end m k e.1 e.0.1 (9223372036854775807 - e.0.1)))
+        run = subst (λ (k : Key). IsRunAt m (of_owner key e.0.0.owner) e.1 e.0.1 (run_start m k e.1 e.0.1) (run_end m k e.1 e.0.1 (9223372036854775807 - e.0.1)))
             (sym f.holder)
             (row_around m (of_owner key e.0.0.owner) e.1 e.0.1 f.conflicting.held (omega arith));
       }
@@ -45,12 +45,12 @@ module _ (m : Marking) (key : Key) (start end : ℕ) (kind : Kind) where
       let at_other : IsConflicting m key kind y.byte a.owner a.mark = subst (λ n. IsConflicting m key kind n a.owner a.mark) byte x.conflicting in
       let owner : a.owner ≡ b.owner = le_antisymm (x.least_owner b.owner b.mark at_one) (y.least_owner a.owner a.mark at_other) in
       let mark : a.mark ≡ b.mark = cc (x.conflicting.held, at_one.held, ap (λ o. get m (of_owner key o, x.byte)) owner) in
-      let other : IsRow m (of_owner key a.owner) a.mark x.byte b.start b.end =
-      subst (λ n. IsRow m (of_owner key a.owner) a.mark n b.start b.end) (sym byte)
-      (subst (λ (t : Mark). IsRow m (of_owner key a.owner) t y.byte b.start b.end) (sym mark)
-      (subst (λ o. IsRow m (of_owner key o) b.mark y.byte b.start b.end) (sym owner) y.row)) in
-      let start : a.start ≡ b.start = same_start m (of_owner key a.owner) a.mark x.row other in
-      let end : a.end ≡ b.end = same_end m (of_owner key a.owner) a.mark x.row other in
+      let other : IsRunAt m (of_owner key a.owner) a.mark x.byte b.start b.end =
+      subst (λ n. IsRunAt m (of_owner key a.owner) a.mark n b.start b.end) (sym byte)
+      (subst (λ (t : Mark). IsRunAt m (of_owner key a.owner) t y.byte b.start b.end) (sym mark)
+      (subst (λ o. IsRunAt m (of_owner key o) b.mark y.byte b.start b.end) (sym owner) y.run)) in
+      let start : a.start ≡ b.start = same_start m (of_owner key a.owner) a.mark x.run other in
+      let end : a.end ≡ b.end = same_end m (of_owner key a.owner) a.mark x.run other in
       λ i. record { owner = owner i; start = start i; end = end i; mark = mark i }
 
   pub named_words : (held : Held) → end ≤ 9223372036854775807 → (blocker m key start end kind ≡ Some held) ↔ IsBlocker m key start end kind held

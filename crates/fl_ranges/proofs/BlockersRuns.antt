@@ -12,7 +12,7 @@ use Rattle.fl_ranges.specs.declared.held.Held.{Held}
 use Rattle.fl_ranges.specs.declared.run.Run.{Run}
 use Rattle.fl_ranges.specs.Marking.{class_number, Spot, marking_of}
 use Rattle.fl_ranges.specs.Conflict.{kinds_conflict}
-use Rattle.fl_ranges.specs.Blocker.{of_owner, IsConflicting, IsRow, IsBlocker, blocker}
+use Rattle.fl_ranges.specs.Blocker.{of_owner, IsConflicting, IsRunAt, IsBlocker, blocker}
 use Rattle.fl_ranges.specs.Inside.RunList.{meant, has_spot, run_at, held_at, IsWhole, AreRuns, run_conflicts}
 use Rattle.fl_ranges.specs.Inside.Nearest.{is_nearer, nearer_of, nearest_with, nearest_from, lock_of}
 use Rattle.fl_ranges.proofs.RunLists.{IsAt, at_spot, spot_of, each_at, each_found, each_ordered, run_has, same_run}
@@ -77,7 +77,7 @@ pub record IsListed (rs : List Run) (r : Run) : Type 0 where
 
 module _ (rs : List Run) (good : AreRuns rs) where
   pub run_row : (r : Run) (byte : ℕ) → r.start ≤ byte → byte ≤ r.end → ((q : Spot) → has_spot q r ≡ true → run_at rs q ≡ Some r) → IsWhole (held_at rs) r →
-      IsRow (marking_of (map meant rs)) r.key r.mark byte r.start r.end
+      IsRunAt (marking_of (map meant rs)) r.key r.mark byte r.start r.end
   run_row r byte from upto found whole = record {
     from = from;
     upto = upto;
@@ -270,7 +270,7 @@ module _ (key : Key) (start end : ℕ) (kind : Kind) where
           };
           least_byte = λ b owner mark from below x. let n = none_first r near b owner mark from (omega arith) x in let place = n.place in absurd (omega arith);
           least_owner = λ owner mark x. let n = none_first r near (max r.start start) owner mark (omega arith) (omega arith) x in n.owner refl;
-          row = subst (λ (k : Key). IsRow (marking_of (map meant rs)) k r.mark (max r.start start) r.start r.end) holder row;
+          run = subst (λ (k : Key). IsRunAt (marking_of (map meant rs)) k r.mark (max r.start start) r.start r.end) holder row;
         }
 
     -- the nearest of the runs that conflict with the lock is the one that is named

@@ -22,8 +22,8 @@ pub record IsConflicting (m : Marking) (key : Key) (kind : Kind) (byte owner : �
   pub other : owner ≢ key.owner
   pub write : kinds_conflict kind mark.kind ≡ true
 
--- the longest row of bytes around a byte at which a key has this mark; 2^63 - 1 is the last byte
-pub record IsRow (m : Marking) (key : Key) (mark : Mark) (byte start end : ℕ) : Type 0 where
+-- the longest run of bytes around a byte at which a key has this mark; 2^63 - 1 is the last byte
+pub record IsRunAt (m : Marking) (key : Key) (mark : Mark) (byte start end : ℕ) : Type 0 where
   pub from : start ≤ byte
   pub upto : byte ≤ end
   pub bounded : end ≤ 9223372036854775807
@@ -32,7 +32,7 @@ pub record IsRow (m : Marking) (key : Key) (mark : Mark) (byte start end : ℕ) 
   pub last : end < 9223372036854775807 → get m (key, end + 1) ≢ Some mark
 
 -- The lock that is named: at the least byte of the range at which another owner's mark conflicts with the lock asked
--- for, that of the least such owner, on the longest row of bytes around that byte at which this owner has this mark.
+-- for, that of the least such owner, on the longest run of bytes around that byte at which this owner has this mark.
 pub record IsBlocker (m : Marking) (key : Key) (start end : ℕ) (kind : Kind) (held : Held) : Type 0 where
   pub byte : ℕ
   pub from : start ≤ byte
@@ -40,7 +40,7 @@ pub record IsBlocker (m : Marking) (key : Key) (start end : ℕ) (kind : Kind) (
   pub conflicting : IsConflicting m key kind byte held.owner held.mark
   pub least_byte : (b owner : ℕ) (mark : Mark) → start ≤ b → b < byte → IsConflicting m key kind b owner mark → ⊥
   pub least_owner : (owner : ℕ) (mark : Mark) → IsConflicting m key kind byte owner mark → held.owner ≤ owner
-  pub row : IsRow m (of_owner key held.owner) held.mark byte held.start held.end
+  pub run : IsRunAt m (of_owner key held.owner) held.mark byte held.start held.end
 
 -- the first of so many bytes, from one on, at which a mark conflicts with the lock, and the least such owner's mark
 -- there
@@ -49,23 +49,23 @@ first_conflicting m key kind byte zero = None
 first_conflicting m key kind byte (suc more) =
     option_or (find (mark_conflicts key byte byte kind) (entries m)) (first_conflicting m key kind (byte + 1) more)
 
--- the first byte of the row that ends at a byte
-unfoldable pub row_start : Marking → Key → Mark → ℕ → ℕ
-row_start m key mark zero = zero
-row_start m key mark (suc byte) = if is_mark mark (get m (key, byte)) then row_start m key mark byte else suc byte
+-- the first byte of the run that ends at a byte
+unfoldable pub run_start : Marking → Key → Mark → ℕ → ℕ
+run_start m key mark zero = zero
+run_start m key mark (suc byte) = if is_mark mark (get m (key, byte)) then run_start m key mark byte else suc byte
 
--- the last byte of the row that begins at a byte, of at most so many bytes more
-unfoldable pub row_end : Marking → Key → Mark → ℕ → ℕ → ℕ
-row_end m key mark byte zero = byte
-row_end m key mark byte (suc more) =
-    if is_mark mark (get m (key, byte + 1)) then row_end m key mark (byte + 1) more else byte
+-- the last byte of the run that begins at a byte, of at most so many bytes more
+unfoldable pub run_end : Marking → Key → Mark → ℕ → ℕ → ℕ
+run_end m key mark byte zero = byte
+run_end m key mark byte (suc more) =
+    if is_mark mark (get m (key, byte + 1)) then run_end m key mark (byte + 1) more else byte
 
--- the lock on the longest row around a marked spot
+-- the lock on the longest run around a marked spot
 abbrev pub lock_around : Marking → (Spot × Mark) → Held
 lock_around m e = record {
   owner = e.0.0.owner;
-  start = row_start m e.0.0 e.1 e.0.1;
-  end = row_end m e.0.0 e.1 e.0.1 (9223372036854775807 - e.0.1);
+  start = run_start m e.0.0 e.1 e.0.1;
+  end = run_end m e.0.0 e.1 e.0.1 (9223372036854775807 - e.0.1);
   mark = e.1;
 }
 

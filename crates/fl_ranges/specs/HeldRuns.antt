@@ -11,7 +11,7 @@ use Rattle.fl_ranges.specs.declared.run.Run.{Run}
 use Rattle.fl_ranges.specs.Marking.{class_number, Spot, Marking}
 use Rattle.fl_ranges.specs.Conflict.{kinds_conflict, mark_conflicts, are_of_two_owners}
 use Rattle.fl_ranges.specs.Runs.{is_start}
-use Rattle.fl_ranges.specs.Blocker.{row_end}
+use Rattle.fl_ranges.specs.Blocker.{run_end}
 
 -- spots by node, then class (record locks before whole-file locks), then byte, then owner
 abbrev pub listing_cmp : Spot → Spot → Ordering
@@ -29,7 +29,7 @@ abbrev pub run_from : Marking → (Spot × Mark) → Run
 run_from m e = record {
   key = e.0.0;
   start = e.0.1;
-  end = row_end m e.0.0 e.1 e.0.1 (9223372036854775807 - e.0.1);
+  end = run_end m e.0.0 e.1 e.0.1 (9223372036854775807 - e.0.1);
   mark = e.1;
 }
 

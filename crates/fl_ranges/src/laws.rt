@@ -49,7 +49,7 @@ pub fn no_mark_is_left_on_the_node()
 {}
 
 /// The lock that is named for a request is that of the least owner that conflicts with it at the least byte at which
-/// one does, on the longest row of bytes around that byte; none is named exactly if there is no conflict.
+/// one does, on the longest run of bytes around that byte; none is named exactly if there is no conflict.
 pub fn blocker_is_the_first_lock_in_conflict()
     ensures named { (m : Marking) (key : Holder) (start end : ℕ) (kind : Sharing) (held : Lock) →
         end ≤ 9223372036854775807 → (blocker m key start end kind ≡ Some held) ↔ IsBlocker m key start end kind held }
