@@ -40,7 +40,7 @@ complete -o default -F _lockd lockd
 
 _lockd_mount() {
     local word=${COMP_WORDS[COMP_CWORD]} before=${COMP_WORDS[COMP_CWORD - 1]}
-    local words='--workers --trace --resume --trace-full --times --fair --runs --parked --files --open --no-check --allow-other --mode --uid --gid --discard-writes --nonempty --grace --count --help --version'
+    local words='--workers --trace --resume --trace-full --times --fair --runs --parked --files --open --no-check --allow-other --mode --uid --gid --discard-writes --source --nonempty --grace --count --help --version'
     case $before in
         --workers) mapfile -t COMPREPLY < <(compgen -W "$(seq 16)" -- "$word") ;;
         --runs) mapfile -t COMPREPLY < <(compgen -W '1 4096 65536' -- "$word") ;;
@@ -51,7 +51,7 @@ _lockd_mount() {
         --trace-full) mapfile -t COMPREPLY < <(compgen -W 'go-on wait end' -- "$word") ;;
         --resume | --times) mapfile -t COMPREPLY < <(compgen -f -- "$word") ;;
         --mode) mapfile -t COMPREPLY < <(compgen -W '0755 1777' -- "$word") ;;
-        --uid | --gid | --grace) COMPREPLY=() ;;
+        --uid | --gid | --grace | --source) COMPREPLY=() ;;
         *)
             case $word in
                 -*) mapfile -t COMPREPLY < <(compgen -W "$words" -- "$word") ;;

@@ -67,13 +67,25 @@ static int received(int channel)
     return device;
 }
 
+// Writes the options of fusermount3, where a backslash stands before each comma and backslash of the source.
+static void put_words(char *to, size_t room, const struct options *options)
+{
+    const char *others = options->allow_other ? ",allow_other" : "";
+    size_t size = (size_t)snprintf(to, room, "nosuid,nodev,default_permissions,subtype=lockd%s,fsname=", others);
+    for (const char *from = options->source; *from && size + 3 < room; from++) {
+        if (*from == ',' || *from == '\\')
+            to[size++] = '\\';
+        to[size++] = *from;
+    }
+    to[size] = 0;
+}
+
 static int mounted_by_fusermount(const struct place *place, const struct options *options)
 {
     int channel[2];
-    const char *const words[] = {"fusermount3", "-o",
-                                 options->allow_other ? "nosuid,nodev,default_permissions,fsname=lockd,subtype=lockd,allow_other"
-                                                      : "nosuid,nodev,default_permissions,fsname=lockd,subtype=lockd",
-                                 "--", place->path, NULL};
+    char given[2 * PATH_MAX + 128];
+    const char *const words[] = {"fusermount3", "-o", given, "--", place->path, NULL};
+    put_words(given, sizeof given, options);
     if (socketpair(AF_UNIX, SOCK_STREAM | SOCK_CLOEXEC, 0, channel))
         return -1;
     pid_t child = fusermount(channel[0], words, false);
@@ -98,7 +110,7 @@ static int mounted_by_root(const struct place *place, const struct options *opti
              (unsigned)getuid(), (unsigned)getgid(), options->allow_other ? ",allow_other" : "");
     // Through the descriptor: what stands at the path by now doesn't count.
     snprintf(target, sizeof target, "/proc/self/fd/%d", place->folder);
-    if (!mount("lockd", target, "fuse.lockd", MS_NOSUID | MS_NODEV, words))
+    if (!mount(options->source, target, "fuse.lockd", MS_NOSUID | MS_NODEV, words))
         return device;
     int error = errno;
     close(device);

@@ -187,6 +187,15 @@ def try_the_kind_of_file_system():
     same(mount.end(), (0, "legal"))
 
 
+def try_the_source_of_a_mount_is_what_is_said():
+    mount = Mount("--source", "an odd,\\word")
+    with open("/proc/self/mounts", encoding="utf-8") as it:
+        same([line.split()[0] for line in it if line.split()[1] == mount.folder], [r"an\040odd,\134word"])
+    contains(refusal(folder=mount.folder), "is mounted by lockd_mount already")
+    same(mount.end(), (0, "legal"))
+    contains(refusal("--source", "", folder=mount.folder), "--source takes a name")
+
+
 # ---- The service manager ----
 
 def comes(listening, words):
@@ -393,11 +402,11 @@ def try_a_user_mounts_by_fusermount3():
         begin() {{ rm -f said; {carrier} "$@" locks > said 2>&1 & until grep -qs "mounted at" said; do sleep 0.01; kill -0 $! || exit 9; done; }}
         begin; flock -n locks/a echo in; ls locks; chmod 600 locks/a; stat -c %a,%U locks/a; {carrier} locks 2>&1 | grep -c already
         fusermount3 -u locks; wait $!; echo $?
-        begin; kill $!; wait $!; echo $?
+        begin --source 'a,b'; grep -o '^a,b ' /proc/mounts; kill $!; wait $!; echo $?
         begin; exec 9> locks/a; flock 9; kill $!; wait $!; echo $?; {carrier} locks 2>&1 | grep -c earlier; exec 9>&-
         begin; exec 9> locks/a; flock 9; kill -9 $!; wait $! 2> /dev/null; (: > locks/a) 2> /dev/null || echo dead; exec 9>&-
         begin; kill $!; wait $!; echo $?; tail -n 1 said; ls locks"""
     ran = subprocess.run(["setpriv", f"--reuid={NOBODY}", f"--regid={NOBODY}", "--clear-groups", "sh", "-c", script], text=True, cwd=home,
                          stdout=subprocess.PIPE, stderr=subprocess.STDOUT, timeout=5 * PATIENCE, stdin=subprocess.DEVNULL, env={**os.environ, "LOCKD": server})
     subprocess.run(["umount", "-l", "/dev/fuse"], check=True, timeout=PATIENCE)
-    same(ran.stdout.split(), "in a 600,nobody 1 0 0 4 1 dead 0 legal".split())
+    same(ran.stdout.split(), "in a 600,nobody 1 0 a,b 0 4 1 dead 0 legal".split())

@@ -1,5 +1,5 @@
 """What tests/package/package.sh runs in its namespace: each function whose name begins with `try_` is one thing that is tried, in this order."""
-import contextlib, glob, gzip, hashlib, os, re, shlex, shutil, stat, subprocess, sys, tempfile, time, traceback
+import contextlib, glob, gzip, hashlib, os, re, shlex, shutil, signal, stat, subprocess, sys, tempfile, time, traceback
 
 from tests.package.kit import *
 
@@ -135,6 +135,32 @@ def try_mounts_that_begin_in_one_second():
         os.remove(f"{ROOT}{it}")
     for it in "/usr/local/bin", "/srv/traces", *folders:
         os.rmdir(f"{ROOT}{it}")
+
+
+def sources():
+    """What /proc/mounts has of our mounts: the source and the folder of each."""
+    return [line.split()[:2] for line in printed("cat", "/proc/mounts").splitlines() if line.split()[2] == "fuse.lockd"]
+
+
+def try_a_second_mount_of_all_does_nothing():
+    """The line of fstab is that of MOUNT.md. A dead mount is mounted anew by its folder's name."""
+    line, source, folder = re.search(r"^((\S+) (/srv/\S+) fuse\.lockd .*)$", text_of(f"{TOP}/docs/MOUNT.md"), re.M).groups()
+    os.mkdir(f"{ROOT}{folder}")
+    put("etc/fstab", f"{line}\n")
+    for _ in range(2):
+        ran = inside("mount", "-a")
+        same((ran.returncode, ran.stdout, ran.stderr, sources()), (0, "", "", [[source, folder]]))
+    os.kill(the_server()[1], signal.SIGKILL)
+    until_all_have_ended()
+    for words, fails in (("-a",), True), ((folder,), False):
+        printed("mount", *words)
+        same((inside("flock", f"{folder}/job", "true").returncode != 0, sources()), (fails, [[source, folder]]))
+    printed("umount", folder)
+    until_all_have_ended()
+    for it in glob.glob(f"{ROOT}/var/lib/locks.*"):
+        os.remove(it)
+    os.remove(f"{ROOT}/etc/fstab")
+    os.rmdir(f"{ROOT}{folder}")
 
 
 def try_an_upgrade_while_a_lock_is_held():
