@@ -195,6 +195,11 @@ def try_an_upgrade_while_a_lock_is_held():
     os.rmdir(f"{ROOT}/srv/my locks")
 
 
+def try_the_package_needs_what_each_debian_has():
+    needed = printed_here("dpkg-deb", "-f", the_package(), "Depends")
+    same(sorted({*re.findall(r"([a-z][a-z0-9.+-]+)(?: \(.*?\))?(?:, |$)", needed.strip())} - {"libc6", "libgcc-s1"}), [])
+
+
 def words_of(unit, key, folder, name):
     """The words of a command of a unit, as systemd makes them of its text."""
     line = re.search(rf"^{key}=[-:]*(.*)$", text_of(unit), re.M)[1]
@@ -214,7 +219,9 @@ def try_what_the_template_unit_starts():
         same(carrier.stdout.readline().decode(), f"mounted at {folder}\n")
         same((is_mounted(folder), len(glob.glob(f"{ROOT}/var/lib/lockd/{glob.escape(name)}.[0-9]*"))), (True, 1))
         before = the_server()[0]
-        printed(*(str(carrier.pid) if it == "$MAINPID" else it for it in words_of(unit, "ExecReload", folder, name)))
+        reload = words_of(unit, "ExecReload", folder, name)
+        same(inside(*reload, env={**ENVIRONMENT, "MAINPID": str(os.getpid())}).returncode, 1)
+        same(inside(*reload, env={**ENVIRONMENT, "MAINPID": str(carrier.pid)}).returncode, 0)
         until(lambda: processes("lockd").keys() - {before}, "no other server was started")
         printed("flock", f"{folder}/job", "true")
         carrier.terminate()
