@@ -228,7 +228,7 @@ def try_the_unit():
     unit = tempfile.mkdtemp(dir=WORK) + "/lockd.service"
     with open(f"{TOP}/dist/lockd.service", encoding="utf-8") as it:
         text = it.read()
-    contains(text, "Type=notify", "OOMScoreAdjust=", "Restart=on-failure")
+    contains(text, "Type=notify", "OOMScoreAdjust=", "Restart=on-failure", "\nSyslogIdentifier=lockd_mount\n")
     # It waits for open files, and then for the server, before it is killed.
     stop, grace = (int(re.search(it, text)[1]) for it in (r"TimeoutStopSec=(\d+)", r"--grace (\d+)"))
     assert stop > grace + 30
