@@ -65,7 +65,8 @@ def try_what_is_installed():
     same(printed("dpkg-query", "-W", "-f", "${db:Status-Abbrev}${Version}", "lockd"), f"ii {VERSION}")
     same(printed("lockd", "--version").split()[:2], ["lockd", VERSION])
     same(printed("lockd_mount", "--version").split()[:2], ["lockd_mount", VERSION])
-    same(printed("bash", "-c", ". /usr/share/bash-completion/completions/lockd_mount && complete -p lockd lockd_mount").count("\n"), 2)
+    for it in "lockd", "lockd_mount", "lockd_locks", "lockd_report":
+        same(printed("bash", "-c", f". /usr/share/bash-completion/completions/{it} && complete -p {it}").count("\n"), 1)
     about = f"{ROOT}/usr/share/doc/lockd"
     for page in "README.md", "docs/MOUNT.md", "docs/COMMANDS.md":
         for link in re.findall(r"\]\((?!http)([^)#]+)", text_of(f"{about}/{page}")):

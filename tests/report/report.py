@@ -4,6 +4,7 @@
 tests/report/report.py --pictures makes the pictures of docs/ anew.
 """
 import random
+import re
 import subprocess
 import sys
 import tempfile
@@ -200,6 +201,19 @@ def try_how_it_ends():
     with open("/dev/full", "wb") as full:
         ran = subprocess.run([sys.executable, REPORT], input=trace, stdout=full, stderr=subprocess.PIPE, check=False)
     same((ran.stderr, ran.returncode), (b"write failed\n", 2))
+
+
+def try_completions_of_programs_in_python():
+    """They have each option that help has, and files or folders for the rest."""
+    def completed(program, *words):
+        script = f'. {TOP}/dist/lockd.bash; COMP_WORDS=("$@") COMP_CWORD=$(($# - 1)); _{program}; printf "%s\\n" "${{COMPREPLY[@]}}"'
+        return subprocess.run(["bash", "-c", script, "bash", program, *words], cwd=TOP, capture_output=True, text=True, check=True, timeout=tries.PATIENCE).stdout.split()
+
+    for program in "lockd_locks", "lockd_report":
+        helped = subprocess.run([sys.executable, f"{TOP}/programs/{program}", "--help"], capture_output=True, text=True, check=True, timeout=tries.PATIENCE).stdout
+        same((program, sorted(completed(program, "-"))), (program, sorted(re.findall(r"^  (?:-h, )?(--?[a-z]+)", helped, re.M))))
+    same([completed("lockd_report", "--times", "VERS"), completed("lockd_report", "-o", "VERS"), completed("lockd_report", "VERS")], [["VERSION"]] * 3)
+    same([completed("lockd_locks", "progr"), completed("lockd_locks", "VERS"), completed("lockd_locks", "--file", "progr")], [["programs"], [], []])
 
 
 def try_a_trace_that_is_cut():
