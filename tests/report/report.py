@@ -247,6 +247,31 @@ def try_a_clock_with_times():
     same(Clock(trace.orders, *read_times(b"".join(text.splitlines(True)[:4]))).places, [250_000] + 7 * [750_000])
 
 
+def try_the_first_window_has_locks_in_it():
+    """Of a long trace: its first orders, those from the first lock on, or with times those where locks follow on one another."""
+    def windows(names, times):
+        """One lock after another behind LOOKUPs, by orders and by the milliseconds from one order to the next."""
+        trace = read_trace((CREATED + "tell 1 made 2 33188 1 0 0 1\n" + "".join(f"ask 0 {it} 1 0 0 0 lookup 62\ntell {it} err 2\n" for it in range(2, names))
+                            + "".join(f"ask 0 {it} 2 0 0 0 setlk 1 7 0 0 {1 + it % 2} 11 0\ntell {it} ok\n" for it in range(names, 3001))).encode())
+        session, at, lines = follow(trace), 0, []
+        for order in trace.orders:
+            at += 1_000_000 * times(order.unique)
+            lines.append(f"ask {order.unique} {at}\ntell {order.unique} {at}\n")
+        clock = Clock(trace.orders, *read_times("".join(lines).encode()))
+        return [chart(trace, session, it)["window"] for it in (None, clock)]
+
+    # A lock begins with every second order, so 1000 of them take 1998 milliseconds.
+    same(windows(2, lambda unique: 1), [[0, 1000], [1000, 1_999_001]])
+    same(windows(1000, lambda unique: 1), [[0, 1000], [999_000, 2_997_001]])
+    same(windows(1002, lambda unique: 1), [[1001, 2001], [1_001_000, 2_999_001]])
+    same(windows(3001, lambda unique: 1), [[0, 1000], [0, 1_000_001]])
+    # An hour after the first order, and another one between the locks.
+    hour = 3_600_000
+    same(windows(2, lambda unique: hour if unique in (2, 100) else 1), [[0, 1000], [(2 * hour + 97) * 1000, (2 * hour + 97 + 1998) * 1000 + 1]])
+    trace, session = followed(text_of("examples/a_lock_is_waited_for.txt"))
+    same(chart(trace, session, None)["window"], None)
+
+
 def try_times_of_a_unique_that_comes_again():
     """The FORGETs of one batch have one time. Requests that use a unique one after another have theirs."""
     trace = read_trace(b"ask 0 4 2 0 0 0 forget 1\nask 0 4 3 0 0 0 forget 1\nask 0 5 2 0 0 0 open\ntell 5 err 2\nask 0 5 2 0 0 0 open\ntell 5 err 2\n")
