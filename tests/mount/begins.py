@@ -307,6 +307,34 @@ def try_a_carrier_that_is_killed_as_its_server_starts_leaves_none():
     until(lambda: state_of(f"/proc/{server}") in ("X", "Z"))
 
 
+def try_a_carrier_that_is_killed_before_it_writes_its_record():
+    """The mount is dead, and no record tells of it. Nobody has a lock there."""
+    library, folder = f"{WORK}/killed.so", tempfile.mkdtemp(dir=WORK)
+    subprocess.run(["cc", "-O2", "-Wall", "-Wextra", "-shared", "-fPIC", "-o", library, f"{TOP}/tests/mount/killed.c"], check=True, timeout=5 * PATIENCE)
+    ran = subprocess.run([PROGRAM, "--trace", "none", folder], env={**os.environ, "TMPDIR": WORK, "LD_PRELOAD": library}, timeout=PATIENCE)
+    same((ran.returncode, is_mounted(folder), outcome(os.listdir, folder)), (-signal.SIGKILL, True, "ENOTCONN"))
+    mount = Mount("--trace", "none", folder=folder)
+    same((mounts().count(folder), outcome(os.listdir, folder)), (1, []))
+    same(mount.end(), (0, "lockd_mount: the folder was unmounted"))
+
+
+def try_the_copy_of_a_mount_whose_carrier_was_killed():
+    """A bind mount has the locks of the first path, and a carrier there is refused. Once both are dead, the next carrier takes the copy away, too."""
+    mount, beside = Mount("--trace", "none"), tempfile.mkdtemp(dir=WORK)
+    subprocess.run(["mount", "--bind", mount.folder, beside], check=True, timeout=PATIENCE)
+    contains(refusal(folder=beside), "is mounted by lockd_mount already")
+    (one,) = children(f"{beside}/held", 1)
+    mount.end(mount.running.kill)
+    for folder in mount.folder, beside:
+        contains(refusal(folder=folder), "an earlier mount", str(one.pid))
+    one.kill()
+    for folder in beside, mount.folder:
+        again = Mount("--trace", "none", folder=folder)
+        same(outcome(os.listdir, folder), [])
+        same(again.end(), (0, "lockd_mount: the folder was unmounted"))
+        same(is_mounted(folder), False)
+
+
 def try_ready_is_not_said_before_init_and_a_lookup_are_answered():
     for how in "no_init", "no_lookup":
         folder, listening = tempfile.mkdtemp(dir=WORK), socket.socket(socket.AF_UNIX, socket.SOCK_DGRAM)
