@@ -138,6 +138,21 @@ def try_mounts_that_begin_in_one_second():
         os.rmdir(f"{ROOT}{it}")
 
 
+def try_a_signal_to_mount_before_a_carrier_is_there():
+    """It comes as the helper of mount(8) has made its folder, and then its pipe. Nothing is left."""
+    os.mkdir(f"{ROOT}/usr/local/bin")
+    os.mkdir(f"{ROOT}/srv/locks")
+    for name in "mktemp", "mkfifo":
+        put(f"usr/local/bin/{name}", f'#!/bin/sh\n/usr/bin/{name} "$@"\nkill $PPID\n')
+        os.chmod(f"{ROOT}/usr/local/bin/{name}", 0o755)
+        ran = inside("/sbin/mount.fuse.lockd", "none", "/srv/locks", "-o", "trace=none")
+        same((name, ran.returncode, ran.stderr, is_mounted("/srv/locks"), glob.glob(f"{ROOT}/tmp/*")), (name, 32, "", False, []))
+        until_all_have_ended()
+        os.remove(f"{ROOT}/usr/local/bin/{name}")
+    for it in "/usr/local/bin", "/srv/locks":
+        os.rmdir(f"{ROOT}{it}")
+
+
 def sources():
     """What /proc/mounts has of our mounts: the source and the folder of each."""
     return [line.split()[:2] for line in printed("cat", "/proc/mounts").splitlines() if line.split()[2] == "fuse.lockd"]
