@@ -1,5 +1,5 @@
-# Completion of `lockd` and of `lockd_mount` for bash: `. dist/lockd.bash`, or put it into
-# /etc/bash_completion.d. tests/commands/man.sh compares its words with what `lockd --help` says.
+# Completion of `lockd`, `lockd_mount`, `lockd_locks` and `lockd_report` for bash: `. dist/lockd.bash`, or put it
+# into /etc/bash_completion.d. tests/commands/man.sh compares its words with what `lockd --help` says.
 _lockd() {
     local word=${COMP_WORDS[COMP_CWORD]} before=${COMP_WORDS[COMP_CWORD - 1]} command=${COMP_WORDS[1]}
     local words= rules='--fair --runs --parked --files --open --verbose'
@@ -40,7 +40,7 @@ complete -o default -F _lockd lockd
 
 _lockd_mount() {
     local word=${COMP_WORDS[COMP_CWORD]} before=${COMP_WORDS[COMP_CWORD - 1]}
-    local words='--workers --trace --resume --trace-full --times --fair --runs --parked --files --open --no-check --allow-other --mode --uid --gid --discard-writes --nonempty --grace --count --help --version'
+    local words='--workers --trace --resume --trace-full --times --fair --runs --parked --files --open --no-check --allow-other --mode --uid --gid --discard-writes --source --nonempty --grace --count --help --version'
     case $before in
         --workers) mapfile -t COMPREPLY < <(compgen -W "$(seq 16)" -- "$word") ;;
         --runs) mapfile -t COMPREPLY < <(compgen -W '1 4096 65536' -- "$word") ;;
@@ -51,7 +51,7 @@ _lockd_mount() {
         --trace-full) mapfile -t COMPREPLY < <(compgen -W 'go-on wait end' -- "$word") ;;
         --resume | --times) mapfile -t COMPREPLY < <(compgen -f -- "$word") ;;
         --mode) mapfile -t COMPREPLY < <(compgen -W '0755 1777' -- "$word") ;;
-        --uid | --gid | --grace) COMPREPLY=() ;;
+        --uid | --gid | --grace | --source) COMPREPLY=() ;;
         *)
             case $word in
                 -*) mapfile -t COMPREPLY < <(compgen -W "$words" -- "$word") ;;
@@ -61,3 +61,24 @@ _lockd_mount() {
     esac
 }
 complete -F _lockd_mount lockd_mount
+
+_lockd_locks() {
+    local word=${COMP_WORDS[COMP_CWORD]} before=${COMP_WORDS[COMP_CWORD - 1]}
+    case $before:$word in
+        # It is the name of a file in a folder that may not be there yet.
+        --file:*) COMPREPLY=() ;;
+        *:-*) mapfile -t COMPREPLY < <(compgen -W '--file --json --help' -- "$word") ;;
+        *) mapfile -t COMPREPLY < <(compgen -d -- "$word") ;;
+    esac
+}
+complete -o filenames -F _lockd_locks lockd_locks
+
+_lockd_report() {
+    local word=${COMP_WORDS[COMP_CWORD]} before=${COMP_WORDS[COMP_CWORD - 1]}
+    case $before:$word in
+        -o:* | --times:*) mapfile -t COMPREPLY < <(compgen -f -- "$word") ;;
+        *:-*) mapfile -t COMPREPLY < <(compgen -W '-o --times --help' -- "$word") ;;
+        *) mapfile -t COMPREPLY < <(compgen -f -- "$word") ;;
+    esac
+}
+complete -o filenames -F _lockd_report lockd_report

@@ -33,6 +33,7 @@ struct options {
     const char *resume; // NULL, or the trace of a server that is started again when it ends
     const char *trace_full;
     const char *times; // NULL: they aren't written
+    const char *source; // as /proc/mounts names it
     const char *workers;
     const char *rules[10]; // those that `serve` and `check` take alike
     int rule_count;

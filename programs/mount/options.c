@@ -31,6 +31,7 @@ static const char HELP[] =
     "  --mode M, --uid N, --gid N\n"
     "                        mode (octal) and owner of the mounted folder; those of FOLDER, if not said\n"
     "  --discard-writes      take what is written and throw it away; else a write fails with EFBIG\n"
+    "  --source NAME         what /proc/mounts names as the source of the mount; lockd, if not said\n"
     "  --nonempty            mount over a folder that has files\n"
     "  --grace S             wait so many seconds for open files, at the end and before it mounts, there at least 2; 0, if\n"
     "                        not said\n"
@@ -84,7 +85,7 @@ static void take_rule(struct options *options, const char *name, const char *wor
 // What rules of the server allow, which makes the tables here.
 enum { MOST_FILES = 65536, STANDARD_FILES = 256, STANDARD_OPEN = 1024 };
 
-enum { ALLOW = 1, COUNT, DISCARD, NONEMPTY, NO_CHECK, WORKERS, TRACE, RESUME, TRACE_FULL, TIMES, FAIR, RUNS, PARKED, FILES, OPEN, NUMBER, HELPS, VERSIONS };
+enum { ALLOW = 1, COUNT, DISCARD, NONEMPTY, NO_CHECK, WORKERS, TRACE, RESUME, TRACE_FULL, TIMES, SOURCE, FAIR, RUNS, PARKED, FILES, OPEN, NUMBER, HELPS, VERSIONS };
 
 static void take(struct options *options, int option, const char *name)
 {
@@ -102,6 +103,7 @@ static void take(struct options *options, int option, const char *name)
     case RESUME: options->resume = optarg; break;
     case TRACE_FULL: options->trace_full = optarg; break;
     case TIMES: options->times = optarg; break;
+    case SOURCE: options->source = optarg; break;
     case FAIR: take_rule(options, "--fair", NULL); break;
     case RUNS: take_rule(options, "--runs", optarg); break;
     case PARKED: take_rule(options, "--parked", optarg); break;
@@ -137,9 +139,10 @@ void read_options(int argc, char **argv, struct options *options)
         {"uid", required_argument, NULL, NUMBER},        {"gid", required_argument, NULL, NUMBER},
         {"grace", required_argument, NULL, NUMBER},      {"help", no_argument, NULL, HELPS},
         {"version", no_argument, NULL, VERSIONS},        {"times", required_argument, NULL, TIMES},
-        {"resume", required_argument, NULL, RESUME},     {NULL, 0, NULL, 0},
+        {"resume", required_argument, NULL, RESUME},     {"source", required_argument, NULL, SOURCE},
+        {NULL, 0, NULL, 0},
     };
-    *options = (struct options){.workers = "1", .files = STANDARD_FILES, .open = STANDARD_OPEN, .mode = -1, .uid = -1, .gid = -1};
+    *options = (struct options){.workers = "1", .source = "lockd", .files = STANDARD_FILES, .open = STANDARD_OPEN, .mode = -1, .uid = -1, .gid = -1};
     int option, at = 0;
     while ((option = getopt_long(argc, argv, "", known, &at)) != -1)
         take(options, option, known[at].name);
@@ -153,5 +156,7 @@ void read_options(int argc, char **argv, struct options *options)
         misused("--trace-full takes go-on, and with --resume FILE it takes wait or end");
     if (options->resume && (options->trace || atoi(options->workers) != 1))
         misused("--resume goes with one worker, and without --trace");
+    if (!*options->source)
+        misused("--source takes a name");
     options->folder = argv[optind];
 }

@@ -18,6 +18,7 @@
 
 enum { STEP = 50000 }; // microseconds between two tries
 enum { PATIENCE = 10 }; // seconds until a lookup has to be answered
+enum { GLANCE = 500 }; // milliseconds for a lookup that a dead mount refuses at once
 enum { MOMENT = 2 }; // seconds that an earlier mount may take to end, also without a grace
 
 // ---- fusermount3 ----
@@ -67,13 +68,25 @@ static int received(int channel)
     return device;
 }
 
+// Writes the options of fusermount3, where a backslash stands before each comma and backslash of the source.
+static void put_words(char *to, size_t room, const struct options *options)
+{
+    const char *others = options->allow_other ? ",allow_other" : "";
+    size_t size = (size_t)snprintf(to, room, "nosuid,nodev,default_permissions,subtype=lockd%s,fsname=", others);
+    for (const char *from = options->source; *from && size + 3 < room; from++) {
+        if (*from == ',' || *from == '\\')
+            to[size++] = '\\';
+        to[size++] = *from;
+    }
+    to[size] = 0;
+}
+
 static int mounted_by_fusermount(const struct place *place, const struct options *options)
 {
     int channel[2];
-    const char *const words[] = {"fusermount3", "-o",
-                                 options->allow_other ? "nosuid,nodev,default_permissions,fsname=lockd,subtype=lockd,allow_other"
-                                                      : "nosuid,nodev,default_permissions,fsname=lockd,subtype=lockd",
-                                 "--", place->path, NULL};
+    char given[2 * PATH_MAX + 128];
+    const char *const words[] = {"fusermount3", "-o", given, "--", place->path, NULL};
+    put_words(given, sizeof given, options);
     if (socketpair(AF_UNIX, SOCK_STREAM | SOCK_CLOEXEC, 0, channel))
         return -1;
     pid_t child = fusermount(channel[0], words, false);
@@ -98,7 +111,7 @@ static int mounted_by_root(const struct place *place, const struct options *opti
              (unsigned)getuid(), (unsigned)getgid(), options->allow_other ? ",allow_other" : "");
     // Through the descriptor: what stands at the path by now doesn't count.
     snprintf(target, sizeof target, "/proc/self/fd/%d", place->folder);
-    if (!mount("lockd", target, "fuse.lockd", MS_NOSUID | MS_NODEV, words))
+    if (!mount(options->source, target, "fuse.lockd", MS_NOSUID | MS_NODEV, words))
         return device;
     int error = errno;
     close(device);
@@ -177,6 +190,55 @@ void place_leave(struct place *place)
     place->folder = -1;
 }
 
+// ---- Whether it answers ----
+
+static void close_others(void)
+{
+    if (!syscall(SYS_close_range, 3u, ~0u, 0u))
+        return;
+    for (int fd = 3; fd < 1024; fd++)
+        close(fd);
+}
+
+// What a lookup of a name gives: 0, its error, or -1 if no answer comes in time. A child looks, since a
+// server that stands still would keep it for ever.
+static int looked_up(const struct place *place, bool (*stops)(void), double patience)
+{
+    char path[PATH_MAX + 32];
+    struct stat at;
+    int status = -1;
+    snprintf(path, sizeof path, "%s/.lockd_mount", place->path);
+    pid_t child = fork();
+    if (!child) {
+        // A child that waits for ever must not keep the device open.
+        close_others();
+        _exit(lstat(path, &at) ? errno : 0);
+    }
+    double last = seconds() + patience;
+    pid_t ended;
+    while (child > 0 && !(ended = waitpid(child, &status, WNOHANG)) && !stops() && seconds() < last)
+        usleep(1000);
+    if (child > 0 && !ended)
+        kill(child, SIGKILL);
+    return WIFEXITED(status) ? WEXITSTATUS(status) : -1;
+}
+
+bool place_answers(const struct place *place, bool (*stops)(void))
+{
+    int found = looked_up(place, stops, PATIENCE);
+    return !found || found == ENOENT || found == EACCES;
+}
+
+static bool never(void)
+{
+    return false;
+}
+
+static bool is_dead(const struct place *place)
+{
+    return looked_up(place, never, GLANCE / 1000.0) == ENOTCONN;
+}
+
 // ---- Before it is mounted ----
 
 static void refuse_nonempty(const struct place *place)
@@ -214,7 +276,8 @@ static dev_t open_folder(struct place *place, const char *path)
 // mount whose carrier is gone.
 enum earlier { NONE, MOUNTED, SERVING, OPEN };
 
-// Looks for a mount at the folder. One whose carrier was killed is taken away if nobody is left in it.
+// Looks for a mount at the folder. One whose carrier was killed is taken away if nobody is left in it. If that came before it wrote
+// its record, or if this is a copy of its mount, there is no record, and only a lookup tells.
 static enum earlier at_folder(struct place *place, const struct options *options, enum record record, struct holders *holders)
 {
     dev_t device = open_folder(place, options->folder);
@@ -226,7 +289,7 @@ static enum earlier at_folder(struct place *place, const struct options *options
         fail("%s is in a folder that is mounted by lockd_mount", place->path);
     if (!found.here)
         return NONE;
-    if (record != RECORD_FREE || record_read() != device)
+    if (record == RECORD_TAKEN || (record_read() != device && !is_dead(place)))
         return MOUNTED;
     find_holders(device, holders);
     if (holders->count)
@@ -313,37 +376,4 @@ void place_open(struct place *place, const struct options *options, bool (*stops
     }
     if (!options->nonempty)
         refuse_nonempty(place);
-}
-
-// ---- When it is mounted ----
-
-static void close_others(void)
-{
-    if (!syscall(SYS_close_range, 3u, ~0u, 0u))
-        return;
-    for (int fd = 3; fd < 1024; fd++)
-        close(fd);
-}
-
-// A child looks, since a server that stands still would keep it for ever.
-bool place_answers(const struct place *place, bool (*stops)(void))
-{
-    char path[PATH_MAX + 32];
-    struct stat at;
-    int status = 1;
-    snprintf(path, sizeof path, "%s/.lockd_mount", place->path);
-    pid_t child = fork();
-    if (!child) {
-        // A child that waits for ever must not keep the device open.
-        close_others();
-        bool well = !lstat(path, &at) || errno == ENOENT || errno == EACCES;
-        _exit(!well);
-    }
-    double last = seconds() + PATIENCE;
-    pid_t ended;
-    while (child > 0 && !(ended = waitpid(child, &status, WNOHANG)) && !stops() && seconds() < last)
-        usleep(1000);
-    if (child > 0 && !ended)
-        kill(child, SIGKILL);
-    return !status;
 }

@@ -7,6 +7,8 @@ from report.session import GRANTED, STILL
 from report.tables import blockers_text, range_text
 
 MOST_LAYERS = 8
+# A trace of more orders than this is shown in part at first, so many of them.
+MOST_WHOLE, FIRST_SHOWN = 2000, 1000
 # What bars and marks say. data.js has the same list.
 HELD, WAITS = 0, {GRANTED: 1, "EINTR": 2, "EBADF": 3, "ENOLCK": 4, STILL: 5}
 OTHER_END = 6
@@ -93,6 +95,21 @@ def columns(bars, words, notes):
     }
 
 
+def first_window(found, count, clock):
+    """From where to where the page shows a long trace at first: the first orders, or those from the first bar on if none of them has one. Over times, where so
+    many bars begin in the least time: for hours before the first orders, or between them, there may be nothing."""
+    firsts = sorted(bar.first for bars in found.values() for bar in bars)
+    if clock and firsts:
+        times = [clock.places[it] for it in firsts]
+        ends = times[min(FIRST_SHOWN, len(times)) - 1:]
+        begun, over = min(zip(times, ends), key=lambda it: it[1] - it[0])
+        return [begun // 1000, over // 1000 + 1]
+    first = firsts[0] if firsts and firsts[0] >= FIRST_SHOWN else 0
+    if clock:
+        return [0, clock.places[FIRST_SHOWN] // 1000 + 1]
+    return [first, min(first + FIRST_SHOWN, count)]
+
+
 def chart(trace, session, clock):
     """All of it, as `JSON.stringify` would write it."""
     found = bars_by_key(session, clock)
@@ -103,7 +120,9 @@ def chart(trace, session, clock):
     bars = columns(list(chain.from_iterable(found[key] for _, key in keys)), words, notes)
     bars["first"] = list(chain.from_iterable(differences(it.first for it in found[key]) for _, key in keys))
     places = differences(it // 1000 for it in clock.places + clock.places[-1:]) if clock else None
+    count = len(trace.orders)
     return {
-        "orders": len(trace.orders), "lines": differences(it.line for it in trace.orders), "places": places, "files": files, "lanes": lanes,
+        "window": first_window(found, count, clock) if count > MOST_WHOLE else None,
+        "orders": count, "lines": differences(it.line for it in trace.orders), "places": places, "files": files, "lanes": lanes,
         "ranges": list(words.places), "notes": list(notes.places), "bars": bars,
     }

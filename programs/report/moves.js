@@ -132,6 +132,6 @@ function listen() {
 }
 
 listen();
-if (data.orders > 2000) view = [0, placeOf(1000) || end];
+if (data.window) move(...data.window);
 recall();
 draw();

@@ -123,6 +123,14 @@ def try_a_folder_that_is_not_empty():
     same(os.listdir(folder), ["data"])
 
 
+def record_of(folder):
+    """The file that has the record of a mount at this path, by `hash_of` of names.c."""
+    number = 14695981039346656037
+    for it in folder.encode():
+        number = (number ^ it) * 1099511628211 % 2**64
+    return f"/run/lockd_mount/{number:016x}"
+
+
 def try_a_folder_that_is_mounted_already():
     mount = Mount()
     for words in (), ("--nonempty",), ("--grace", "5"):
@@ -139,9 +147,8 @@ def try_a_folder_that_is_mounted_already():
     same(mount.end(), (0, "legal"))
     subprocess.run(["mount", "--bind", mount.folder, beside], check=True, timeout=PATIENCE)
     again = Mount(folder=mount.folder)
-    records = os.listdir("/run/lockd_mount")
     contains(refusal(folder=beside), f"another lockd_mount has {beside}")
-    same(os.listdir("/run/lockd_mount"), records)
+    same([os.path.exists(record_of(it)) for it in (again.folder, beside)], [True, False])
     same(again.end(), (0, "legal"))
     unmount(beside)
 
@@ -187,6 +194,15 @@ def try_the_kind_of_file_system():
     same(mount.end(), (0, "legal"))
 
 
+def try_the_source_of_a_mount_is_what_is_said():
+    mount = Mount("--source", "an odd,\\word")
+    with open("/proc/self/mounts", encoding="utf-8") as it:
+        same([line.split()[0] for line in it if line.split()[1] == mount.folder], [r"an\040odd,\134word"])
+    contains(refusal(folder=mount.folder), "is mounted by lockd_mount already")
+    same(mount.end(), (0, "legal"))
+    contains(refusal("--source", "", folder=mount.folder), "--source takes a name")
+
+
 # ---- The service manager ----
 
 def comes(listening, words):
@@ -219,7 +235,7 @@ def try_the_unit():
     unit = tempfile.mkdtemp(dir=WORK) + "/lockd.service"
     with open(f"{TOP}/dist/lockd.service", encoding="utf-8") as it:
         text = it.read()
-    contains(text, "Type=notify", "OOMScoreAdjust=", "Restart=on-failure")
+    contains(text, "Type=notify", "OOMScoreAdjust=", "Restart=on-failure", "\nSyslogIdentifier=lockd_mount\n")
     # It waits for open files, and then for the server, before it is killed.
     stop, grace = (int(re.search(it, text)[1]) for it in (r"TimeoutStopSec=(\d+)", r"--grace (\d+)"))
     assert stop > grace + 30
@@ -296,6 +312,34 @@ def try_a_carrier_that_is_killed_as_its_server_starts_leaves_none():
     begun.kill()
     begun.wait(PATIENCE)
     until(lambda: state_of(f"/proc/{server}") in ("X", "Z"))
+
+
+def try_a_carrier_that_is_killed_before_it_writes_its_record():
+    """The mount is dead, and no record tells of it. Nobody has a lock there."""
+    library, folder = f"{WORK}/killed.so", tempfile.mkdtemp(dir=WORK)
+    subprocess.run(["cc", "-O2", "-Wall", "-Wextra", "-shared", "-fPIC", "-o", library, f"{TOP}/tests/mount/killed.c"], check=True, timeout=5 * PATIENCE)
+    ran = subprocess.run([PROGRAM, "--trace", "none", folder], env={**os.environ, "TMPDIR": WORK, "LD_PRELOAD": library}, timeout=PATIENCE)
+    same((ran.returncode, is_mounted(folder), outcome(os.listdir, folder)), (-signal.SIGKILL, True, "ENOTCONN"))
+    mount = Mount("--trace", "none", folder=folder)
+    same((mounts().count(folder), outcome(os.listdir, folder)), (1, []))
+    same(mount.end(), (0, "lockd_mount: the folder was unmounted"))
+
+
+def try_the_copy_of_a_mount_whose_carrier_was_killed():
+    """A bind mount has the locks of the first path, and a carrier there is refused. Once both are dead, the next carrier takes the copy away, too."""
+    mount, beside = Mount("--trace", "none"), tempfile.mkdtemp(dir=WORK)
+    subprocess.run(["mount", "--bind", mount.folder, beside], check=True, timeout=PATIENCE)
+    contains(refusal(folder=beside), "is mounted by lockd_mount already")
+    (one,) = children(f"{beside}/held", 1)
+    mount.end(mount.running.kill)
+    for folder in mount.folder, beside:
+        contains(refusal(folder=folder), "an earlier mount", str(one.pid))
+    one.kill()
+    for folder in beside, mount.folder:
+        again = Mount("--trace", "none", folder=folder)
+        same(outcome(os.listdir, folder), [])
+        same(again.end(), (0, "lockd_mount: the folder was unmounted"))
+        same(is_mounted(folder), False)
 
 
 def try_ready_is_not_said_before_init_and_a_lookup_are_answered():
@@ -393,11 +437,11 @@ def try_a_user_mounts_by_fusermount3():
         begin() {{ rm -f said; {carrier} "$@" locks > said 2>&1 & until grep -qs "mounted at" said; do sleep 0.01; kill -0 $! || exit 9; done; }}
         begin; flock -n locks/a echo in; ls locks; chmod 600 locks/a; stat -c %a,%U locks/a; {carrier} locks 2>&1 | grep -c already
         fusermount3 -u locks; wait $!; echo $?
-        begin; kill $!; wait $!; echo $?
+        begin --source 'a,b'; grep -o '^a,b ' /proc/mounts; kill $!; wait $!; echo $?
         begin; exec 9> locks/a; flock 9; kill $!; wait $!; echo $?; {carrier} locks 2>&1 | grep -c earlier; exec 9>&-
         begin; exec 9> locks/a; flock 9; kill -9 $!; wait $! 2> /dev/null; (: > locks/a) 2> /dev/null || echo dead; exec 9>&-
         begin; kill $!; wait $!; echo $?; tail -n 1 said; ls locks"""
     ran = subprocess.run(["setpriv", f"--reuid={NOBODY}", f"--regid={NOBODY}", "--clear-groups", "sh", "-c", script], text=True, cwd=home,
                          stdout=subprocess.PIPE, stderr=subprocess.STDOUT, timeout=5 * PATIENCE, stdin=subprocess.DEVNULL, env={**os.environ, "LOCKD": server})
     subprocess.run(["umount", "-l", "/dev/fuse"], check=True, timeout=PATIENCE)
-    same(ran.stdout.split(), "in a 600,nobody 1 0 0 4 1 dead 0 legal".split())
+    same(ran.stdout.split(), "in a 600,nobody 1 0 a,b 0 4 1 dead 0 legal".split())

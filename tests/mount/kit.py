@@ -12,6 +12,7 @@ WORK = os.environ.get("TRY_MOUNT_WORK") or tempfile.mkdtemp(prefix="try_mount.")
 READ, WRITE, UNLOCK = fcntl.F_RDLCK, fcntl.F_WRLCK, fcntl.F_UNLCK
 SHARED, ALONE, NOT_HELD, AT_ONCE = fcntl.LOCK_SH, fcntl.LOCK_EX, fcntl.LOCK_UN, fcntl.LOCK_NB
 STRUCT_FLOCK = "hhqqi4x"
+OFD_GETLK = 36  # Python has no name for it
 NOBODY = 65534
 AS_USER = os.geteuid() != 0
 UMOUNT = ["fusermount3", "-u"] if AS_USER else ["umount"]
@@ -204,9 +205,9 @@ def ofd(fd, kind, start=0, length=0, waits=False):
     fcntl.fcntl(fd, 38 if waits else 37, struct.pack(STRUCT_FLOCK, kind, 0, start, length, 0))
 
 
-def asked(fd, kind, start=0, length=0):
-    """What F_GETLK says: nothing, or the kind, start, length and pid of a lock that is in the way."""
-    told = struct.unpack(STRUCT_FLOCK, fcntl.fcntl(fd, fcntl.F_GETLK, struct.pack(STRUCT_FLOCK, kind, 0, start, length, 0)))
+def asked(fd, kind, start=0, length=0, command=fcntl.F_GETLK):
+    """What F_GETLK or OFD_GETLK says: nothing, or the kind, start, length and pid of a lock that is in the way."""
+    told = struct.unpack(STRUCT_FLOCK, fcntl.fcntl(fd, command, struct.pack(STRUCT_FLOCK, kind, 0, start, length, 0)))
     return None if told[0] == UNLOCK else (told[0], *told[2:])
 
 

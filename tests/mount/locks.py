@@ -1,5 +1,5 @@
 """Locks of a mount: shell scripts, record locks, and random calls beside a file system in memory."""
-import os, random, shutil, signal, tempfile, time
+import fcntl, os, random, shutil, signal, tempfile, time
 from tests.model import LAST, RECORD, Model
 from tests.mount.kit import *
 
@@ -314,6 +314,15 @@ def try_ofd_lock_goes_with_the_last_close_of_its_description(mount):
         one.kill()
         two.kill()
     both(mount, tries)
+
+
+def try_getlk_of_a_description_names_no_process(mount):
+    """F_OFD_GETLK finds the lock, and its pid is -1, also for a lock of a process, which in memory it names. F_GETLK names who set a lock of a description."""
+    one, two = children(f"{mount.folder}/ofd_getlk", 2)
+    same([one.ask("ofd", "a", WRITE, 3, 4), one.ask("record", "a", WRITE, 20, 5)], ["ok", "ok"])
+    for start, length, found in (0, 10, (WRITE, 3, 4)), (20, 1, (WRITE, 20, 5)), (100, 0, None):
+        same([two.ask("asked", "a", READ, start, length, it) for it in (OFD_GETLK, fcntl.F_GETLK)], [found and (*found, it) for it in (-1, one.pid)])
+    same(one.ask("asked", "a", READ, 0, 10, OFD_GETLK), None)
 
 
 def try_ofd_lock_of_a_killed_process_goes_to_one_who_waits(mount):

@@ -1,5 +1,5 @@
 """What tests/package/package.sh runs in its namespace: each function whose name begins with `try_` is one thing that is tried, in this order."""
-import contextlib, glob, gzip, hashlib, os, re, shlex, shutil, stat, subprocess, sys, tempfile, time, traceback
+import contextlib, glob, gzip, hashlib, os, re, shlex, shutil, signal, stat, subprocess, sys, tempfile, time, traceback
 
 from tests.package.kit import *
 
@@ -65,7 +65,8 @@ def try_what_is_installed():
     same(printed("dpkg-query", "-W", "-f", "${db:Status-Abbrev}${Version}", "lockd"), f"ii {VERSION}")
     same(printed("lockd", "--version").split()[:2], ["lockd", VERSION])
     same(printed("lockd_mount", "--version").split()[:2], ["lockd_mount", VERSION])
-    same(printed("bash", "-c", ". /usr/share/bash-completion/completions/lockd_mount && complete -p lockd lockd_mount").count("\n"), 2)
+    for it in "lockd", "lockd_mount", "lockd_locks", "lockd_report":
+        same(printed("bash", "-c", f". /usr/share/bash-completion/completions/{it} && complete -p {it}").count("\n"), 1)
     about = f"{ROOT}/usr/share/doc/lockd"
     for page in "README.md", "docs/MOUNT.md", "docs/COMMANDS.md":
         for link in re.findall(r"\]\((?!http)([^)#]+)", text_of(f"{about}/{page}")):
@@ -137,6 +138,49 @@ def try_mounts_that_begin_in_one_second():
         os.rmdir(f"{ROOT}{it}")
 
 
+def try_a_signal_to_mount_before_a_carrier_is_there():
+    """It comes as the helper of mount(8) has made its folder, and then its pipe. Nothing is left."""
+    os.mkdir(f"{ROOT}/usr/local/bin")
+    os.mkdir(f"{ROOT}/srv/locks")
+    for name in "mktemp", "mkfifo":
+        put(f"usr/local/bin/{name}", f'#!/bin/sh\n/usr/bin/{name} "$@"\nkill $PPID\n')
+        os.chmod(f"{ROOT}/usr/local/bin/{name}", 0o755)
+        ran = inside("/sbin/mount.fuse.lockd", "none", "/srv/locks", "-o", "trace=none")
+        same((name, ran.returncode, ran.stderr, is_mounted("/srv/locks"), glob.glob(f"{ROOT}/tmp/*")), (name, 32, "", False, []))
+        until_all_have_ended()
+        os.remove(f"{ROOT}/usr/local/bin/{name}")
+    for it in "/usr/local/bin", "/srv/locks":
+        os.rmdir(f"{ROOT}{it}")
+
+
+def sources():
+    """What /proc/mounts has of our mounts: the source and the folder of each."""
+    return [line.split()[:2] for line in printed("cat", "/proc/mounts").splitlines() if line.split()[2] == "fuse.lockd"]
+
+
+def try_a_second_mount_of_all_does_nothing():
+    """The line of fstab is that of MOUNT.md. A dead mount is mounted anew by its folder's name."""
+    line, source, folder = re.search(r"^((\S+) (/srv/\S+) fuse\.lockd .*)$", text_of(f"{TOP}/docs/MOUNT.md"), re.M).groups()
+    os.mkdir(f"{ROOT}{folder}")
+    put("etc/fstab", f"{line}\n")
+    for _ in range(2):
+        ran = inside("mount", "-a")
+        same((ran.returncode, ran.stdout, ran.stderr, sources()), (0, "", "", [[source, folder]]))
+    os.kill(the_server()[1], signal.SIGKILL)
+    until_all_have_ended()
+    for words, fails in (("-a",), True), ((folder,), False):
+        printed("mount", *words)
+        same((inside("flock", f"{folder}/job", "true").returncode != 0, sources()), (fails, [[source, folder]]))
+    printed("umount", folder)
+    until_all_have_ended()
+    for it in glob.glob(f"{ROOT}/var/lib/locks.*"):
+        os.remove(it)
+    os.remove(f"{ROOT}/etc/fstab")
+    os.rmdir(f"{ROOT}{folder}")
+    left, = glob.glob(f"{ROOT}/tmp/lockd_mount.*")
+    shutil.rmtree(left)
+
+
 def try_an_upgrade_while_a_lock_is_held():
     """By a line of fstab, for a folder with a space in its name."""
     os.makedirs(f"{ROOT}/srv/my locks")
@@ -169,6 +213,11 @@ def try_an_upgrade_while_a_lock_is_held():
     os.rmdir(f"{ROOT}/srv/my locks")
 
 
+def try_the_package_needs_what_each_debian_has():
+    needed = printed_here("dpkg-deb", "-f", the_package(), "Depends")
+    same(sorted({*re.findall(r"([a-z][a-z0-9.+-]+)(?: \(.*?\))?(?:, |$)", needed.strip())} - {"libc6", "libgcc-s1"}), [])
+
+
 def words_of(unit, key, folder, name):
     """The words of a command of a unit, as systemd makes them of its text."""
     line = re.search(rf"^{key}=[-:]*(.*)$", text_of(unit), re.M)[1]
@@ -188,7 +237,8 @@ def try_what_the_template_unit_starts():
         same(carrier.stdout.readline().decode(), f"mounted at {folder}\n")
         same((is_mounted(folder), len(glob.glob(f"{ROOT}/var/lib/lockd/{glob.escape(name)}.[0-9]*"))), (True, 1))
         before = the_server()[0]
-        printed(*(str(carrier.pid) if it == "$MAINPID" else it for it in words_of(unit, "ExecReload", folder, name)))
+        reload = words_of(unit, "ExecReload", folder, name)
+        same([inside(*reload, env={**ENVIRONMENT, "MAINPID": str(it)}).returncode for it in (before, carrier.pid)], [1, 0])
         until(lambda: processes("lockd").keys() - {before}, "no other server was started")
         printed("flock", f"{folder}/job", "true")
         carrier.terminate()

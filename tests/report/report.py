@@ -4,6 +4,7 @@
 tests/report/report.py --pictures makes the pictures of docs/ anew.
 """
 import random
+import re
 import subprocess
 import sys
 import tempfile
@@ -202,6 +203,19 @@ def try_how_it_ends():
     same((ran.stderr, ran.returncode), (b"write failed\n", 2))
 
 
+def try_completions_of_programs_in_python():
+    """They have each option that help has, and files or folders for the rest."""
+    def completed(program, *words):
+        script = f'. {TOP}/dist/lockd.bash; COMP_WORDS=("$@") COMP_CWORD=$(($# - 1)); _{program}; printf "%s\\n" "${{COMPREPLY[@]}}"'
+        return subprocess.run(["bash", "-c", script, "bash", program, *words], cwd=TOP, capture_output=True, text=True, check=True, timeout=tries.PATIENCE).stdout.split()
+
+    for program in "lockd_locks", "lockd_report":
+        helped = subprocess.run([sys.executable, f"{TOP}/programs/{program}", "--help"], capture_output=True, text=True, check=True, timeout=tries.PATIENCE).stdout
+        same((program, sorted(completed(program, "-"))), (program, sorted(re.findall(r"^  (?:-h, )?(--?[a-z]+)", helped, re.M))))
+    same([completed("lockd_report", "--times", "VERS"), completed("lockd_report", "-o", "VERS"), completed("lockd_report", "VERS")], [["VERSION"]] * 3)
+    same([completed("lockd_locks", "progr"), completed("lockd_locks", "VERS"), completed("lockd_locks", "--file", "progr")], [["programs"], [], []])
+
+
 def try_a_trace_that_is_cut():
     """It is shown up to its last whole line, and says so."""
     text = traced(text_of("examples/a_lock_is_waited_for.txt"))
@@ -231,6 +245,31 @@ def try_a_clock_with_times():
     same(Clock(trace.orders, *read_times(b"ask 77 5\n")).is_empty, True)
     # Without the last lines the orders that they are about stand where the one before does.
     same(Clock(trace.orders, *read_times(b"".join(text.splitlines(True)[:4]))).places, [250_000] + 7 * [750_000])
+
+
+def try_the_first_window_has_locks_in_it():
+    """Of a long trace: its first orders, those from the first lock on, or with times those where locks follow on one another."""
+    def windows(names, times):
+        """One lock after another behind LOOKUPs, by orders and by the milliseconds from one order to the next."""
+        trace = read_trace((CREATED + "tell 1 made 2 33188 1 0 0 1\n" + "".join(f"ask 0 {it} 1 0 0 0 lookup 62\ntell {it} err 2\n" for it in range(2, names))
+                            + "".join(f"ask 0 {it} 2 0 0 0 setlk 1 7 0 0 {1 + it % 2} 11 0\ntell {it} ok\n" for it in range(names, 3001))).encode())
+        session, at, lines = follow(trace), 0, []
+        for order in trace.orders:
+            at += 1_000_000 * times(order.unique)
+            lines.append(f"ask {order.unique} {at}\ntell {order.unique} {at}\n")
+        clock = Clock(trace.orders, *read_times("".join(lines).encode()))
+        return [chart(trace, session, it)["window"] for it in (None, clock)]
+
+    # A lock begins with every second order, so 1000 of them take 1998 milliseconds.
+    same(windows(2, lambda unique: 1), [[0, 1000], [1000, 1_999_001]])
+    same(windows(1000, lambda unique: 1), [[0, 1000], [999_000, 2_997_001]])
+    same(windows(1002, lambda unique: 1), [[1001, 2001], [1_001_000, 2_999_001]])
+    same(windows(3001, lambda unique: 1), [[0, 1000], [0, 1_000_001]])
+    # An hour after the first order, and another one between the locks.
+    hour = 3_600_000
+    same(windows(2, lambda unique: hour if unique in (2, 100) else 1), [[0, 1000], [(2 * hour + 97) * 1000, (2 * hour + 97 + 1998) * 1000 + 1]])
+    trace, session = followed(text_of("examples/a_lock_is_waited_for.txt"))
+    same(chart(trace, session, None)["window"], None)
 
 
 def try_times_of_a_unique_that_comes_again():
