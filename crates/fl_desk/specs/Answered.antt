@@ -3,7 +3,7 @@ use Rattle.std.specs.Prelude.{◌≡◌, ℕ, ◌==◌, List, [], ◌∷◌, ◌
 use mathlib.Core.List.{IsPrefix}
 use Rattle.fl_core.specs.Replies.{own_replies}
 use Rattle.fl_core.specs.Step.{replies_in}
-use Rattle.fl_desk.specs.Legal.{IsLegal}
+use Rattle.fl_desk.specs.Legal.{IsLegal, step_lines}
 use Rattle.fl_desk.specs.Replay.{state_after}
 use Rattle.fl_history.specs.declared.history.Line.{Line}
 use Rattle.fl_history.specs.declared.history.Line.TheVariants as line
@@ -49,6 +49,15 @@ AreAnsweredLast before orders [] now = now ≡ before
 AreAnsweredLast before [] (tolds ∷ lists) now = ⊥
 AreAnsweredLast before (order ∷ orders) (tolds ∷ lists) now =
     (between : List Answered) × IsAnsweredLast before order tolds between × AreAnsweredLast between orders lists now
+
+-- These orders of a worker stand with these lists of replies in a history, one after another, the first behind `front`:
+-- `now` ends with the last of them. If there are fewer lists than orders, the orders without one don't stand there.
+abbrev pub AreBehind : ℕ → List Line → List Order → List (List Told) → List Line → Type 0
+AreBehind worker front orders [] now = now ≡ front
+AreBehind worker front [] (tolds ∷ lists) now = ⊥
+AreBehind worker front (order ∷ orders) (tolds ∷ lists) now =
+    (before : List Line) × IsPrefix front before
+    × AreBehind worker (before ++ step_lines worker order tolds) orders lists now
 
 -- after a history that is legal under these rules, this is what an order that only reads is answered
 pub record IsAnsweredAfter (rules : Rules) (lines : List Line) (order : Order) (result : Result Answer Errno)

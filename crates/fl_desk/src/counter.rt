@@ -2,7 +2,7 @@
 
 ghost use Rattle.std.specs.Prelude.{◌≡◌, ◌<◌, ◌≤◌, ℕ, ◌+◌, true, length, List, Result, IfOk, OnOk, OnErr};
 ghost use mathlib.Core.List.{IsPrefix};
-ghost use Rattle.fl_desk.specs.Answered.{Answered, AreAnsweredLast, answered_by};
+ghost use Rattle.fl_desk.specs.Answered.{Answered, AreAnsweredLast, AreBehind, answered_by};
 ghost use Rattle.fl_history.specs.declared.history.Line.{Line};
 ghost use Rattle.fl_order.specs.Order.{only_reads};
 ghost use Rattle.fl_order.specs.declared.errno.Errno.{Errno};
@@ -29,8 +29,11 @@ pub trait Counter {
     /// The orders of the seat's worker in the history up to the last that was taken through it, each with its replies.
     ghost answered: { Self.Seat → List Answered };
 
-    /// The longest history that was shown through a seat.
-    ghost seen: { Self.Seat → List Line };
+    /// The longest history that was shown through a seat, or that ends with an order that was taken through it.
+    ghost front: { Self.Seat → List Line };
+
+    /// A beginning of the history whose lines are stored, or need not be before replies leave.
+    ghost stored: { Self.Seat → List Line };
 
     /// What an order that only reads is answered after a history.
     ghost shows: { List Line → Order → Result Answer Errno → Type 0 };
@@ -40,8 +43,9 @@ pub trait Counter {
 
     /// Takes orders one after another, and hands out a list of replies for each that it took: in `lists`, in the place
     /// of those before. `tolds` has room for the replies to one. It may end before it took all, but takes one at least,
-    /// or is refused. What is refused is the first order that has no list, and it changes nothing. Before it waits for
-    /// long it sends what is outgoing.
+    /// or is refused. What is refused is the first order that has no list, and it changes nothing. Each stands in the
+    /// history behind all that was taken and shown through the seat before. It comes back when the lines of all that it
+    /// took are stored, or need not be. Before it waits for long it sends what is outgoing.
     fn hand_in_all<R: Wait, O: Outgoing>(
         &self,
         rt: &R,
@@ -56,9 +60,12 @@ pub trait Counter {
         ensures room { tolds.new.room ≡ tolds.old.room }
         ensures lists { (lists.new.room ≡ lists.old.room) × (lists.new.places ≡ lists.old.places) }
         ensures own { worker seat.new ≡ worker seat.old }
-        ensures seen { seen seat.new ≡ seen seat.old }
         ensures count { count seat.new ≡ count seat.old + length lists.new.lists }
         ensures taken { AreAnsweredLast (answered seat.old) orders.now lists.new.lists (answered seat.new) }
+        ensures behind { AreBehind (worker seat.old) (front seat.old) orders.now lists.new.lists (front seat.new) }
+        ensures stored { 0 < length lists.new.lists
+            → answered_by (worker seat.new) (stored seat.new) ≡ answered seat.new }
+        ensures no_more { length lists.new.lists ≡ 0 → stored seat.new ≡ stored seat.old }
         ensures some { OnOk result (0 < length orders.now → 0 < length lists.new.lists) }
         ensures refused { OnErr result (length lists.new.lists < length orders.now) };
 
@@ -68,10 +75,11 @@ pub trait Counter {
         requires { only_reads order.now.op ≡ true }
         ensures own { worker seat.new ≡ worker seat.old }
         ensures kept { (count seat.new ≡ count seat.old) × (answered seat.new ≡ answered seat.old) }
-        ensures seen { IsPrefix (seen seat.old) (seen seat.new) }
+        ensures stored { stored seat.new ≡ stored seat.old }
+        ensures front { IsPrefix (front seat.old) (front seat.new) }
         ensures had { IfOk result (λ _.
-            IsPrefix (answered seat.old) (answered_by (worker seat.old) (seen seat.new))) }
-        ensures shown { IfOk result (λ answer. shows (seen seat.new) order.now answer) };
+            IsPrefix (answered seat.old) (answered_by (worker seat.old) (front seat.new))) }
+        ensures shown { IfOk result (λ answer. shows (front seat.new) order.now answer) };
 
     /// Stores what is held back: a worker has no order at hand, and waits for one. It concerns no seat.
     fn pause<R: Wait>(&self, rt: &R);
