@@ -139,6 +139,7 @@ impl<J: Journal> Desk<J> {
         ensures present { self.new.present ≡ self.old.present }
         ensures stored { IsPrefix self.old.stored self.new.stored }
         ensures all { IsTrue result → self.new.stored ≡ self.new.lines }
+        ensures infallible { IsTrue J.infallible → IsTrue result }
     {
         self.journal.store_all()
     }

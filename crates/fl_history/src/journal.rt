@@ -1,6 +1,6 @@
 //! What keeps the lines of a desk, in memory or elsewhere.
 
-ghost use Rattle.std.specs.Prelude.{◌≡◌, ℕ, ◌+◌, ◌≤◌, ◌<◌, ◌++◌, ◌∷◌, [], List, OnOk, IsOk, IsTrue};
+ghost use Rattle.std.specs.Prelude.{◌≡◌, ℕ, ◌+◌, ◌≤◌, ◌<◌, ◌++◌, ◌∷◌, [], Bool, false, true, List, OnOk, IsOk, IsTrue};
 ghost use mathlib.Core.List.{IsPrefix};
 ghost use Rattle.fl_history.specs.declared.history.Line.{Line as Entry};
 ghost use Rattle.fl_history.specs.declared.history.Line.TheVariants as line;
@@ -19,6 +19,9 @@ pub trait Journal {
 
     /// For how many more lines there is room.
     ghost room: { Self → ℕ };
+
+    /// Whether `store_all` always stores all: each line is stored as it comes, or nobody wants any stored.
+    ghost infallible: { Bool } = { false };
 
     /// Makes room for so many lines more, at most 2,048. A refusal changes no line, and doesn't come if there is
     /// room.
@@ -47,7 +50,8 @@ pub trait Journal {
     fn store_all(&mut self) -> bool
         ensures lines { lines self.new ≡ lines self.old }
         ensures stored { IsPrefix (stored self.old) (stored self.new) }
-        ensures all { IsTrue result → stored self.new ≡ lines self.new };
+        ensures all { IsTrue result → stored self.new ≡ lines self.new }
+        ensures infallible { IsTrue infallible → IsTrue result };
 
     /// Stores all lines if they must be stored before replies leave, and says whether that is so: they are stored, or
     /// need not be. No line changes.
@@ -64,6 +68,8 @@ impl Journal for Lines {
     ghost stored = { λ l. l.items };
 
     ghost room = { λ l. l.room };
+
+    ghost infallible = { true };
 
     #[tactic(auto, using(crate::proofs::Prefixes::of_itself))]
     fn reserve(&mut self, count: usize) -> Result<(), NoMemory> {

@@ -1,6 +1,6 @@
 //! Lines that nothing keeps.
 
-ghost use Rattle.std.specs.Prelude.{◌≡◌, []};
+ghost use Rattle.std.specs.Prelude.{◌≡◌, [], true};
 
 use crate::history::Line;
 use crate::journal::Journal;
@@ -39,6 +39,8 @@ impl Journal for NoJournal {
     ghost stored = { λ lines. lines };
 
     ghost room = { λ _. 2048 };
+
+    ghost infallible = { true };
 
     #[tactic(auto, using(crate::proofs::Prefixes::of_itself))]
     fn reserve(&mut self, _count: usize) -> Result<(), NoMemory> {

@@ -51,7 +51,7 @@ pub record AreKnown : Type 0 where
 abbrev pub IsSound : Session → Type 0
 IsSound s = IsLegal s.rules s.lines
 
-order_sound : (s : Session) (refused : Bool) (order : Order) → IsSound s → IsSound (with_order s refused order)
+pub order_sound : (s : Session) (refused : Bool) (order : Order) → IsSound s → IsSound (with_order s refused order)
 order_sound s true order sound = sound
 order_sound s false order sound = step s.lines 0 order sound refl
 
@@ -90,7 +90,7 @@ sound_if : (over : Bool) (s t : Session) → IsSound s → IsSound t → IsSound
 sound_if true s t first second = first
 sound_if false s t first second = second
 
-message_sound : (s : Session) (c : Came) → IsSound s → IsSound (with_message s c)
+pub message_sound : (s : Session) (c : Came) → IsSound s → IsSound (with_message s c)
 message_sound s c sound =
     sound_if s.handshake.over s _ sound
     (either_sound (record s { handshake = advanced s.handshake c.message }) (unmarked s.resends (unique_of c.message)) c.refused
@@ -197,7 +197,7 @@ order_moved : (s : Session) (handshake : Handshake) (refused : Bool) (order : Or
 order_moved s handshake true order = refl
 order_moved s handshake false order = refl
 
-orders_moved : (s : Session) (handshake : Handshake) (orders : List Order) (refused : List Bool)
+pub orders_moved : (s : Session) (handshake : Handshake) (orders : List Order) (refused : List Bool)
     → with_orders (record s { handshake = handshake }) orders refused
     ≡ record (with_orders s orders refused) { handshake = handshake }
 orders_moved s handshake [] refused = refl

@@ -25,12 +25,12 @@ goes_if true a b s t now after first second = first
 goes_if false a b s t now after first second = second
 
 -- a session that is as far as this, with a message that isn't known as one that is sent again
-abbrev with_plain : Session → Handshake → Came → Session
+abbrev pub with_plain : Session → Handshake → Came → Session
 with_plain s h c =
     if h.over then s
     else with_incoming (record s { handshake = advanced h c.message }) c.refused (incoming_of h c.message)
 
-plain_is : (s : Session) (c : Came) → nat_le (2 ^ 63) (unique_of c.message) ≡ false
+pub plain_is : (s : Session) (c : Came) → nat_le (2 ^ 63) (unique_of c.message) ≡ false
     → with_message s c ≡ with_plain s s.handshake c
 plain_is s c plain = ap (λ marked. if s.handshake.over then s
     else with_either (record s { handshake = advanced s.handshake c.message }) marked c.refused (incoming_of s.handshake c.message))

@@ -1,5 +1,7 @@
 pub mod AgainLemmas
 pub mod BatchLemmas
+pub mod CutLemmas
+pub mod FirstLemmas
 pub mod KnownLemmas
 pub mod LaterLemmas
 pub mod MarkLemmas

@@ -307,7 +307,7 @@ pub agrees_on : (t : Session) (c : Came) → t.handshake.agreed ≡ true → (wi
 agrees_on t c e =
     ap (λ h. h.agreed) (by_message t c).handshake ∙ agreed_still t.handshake c.message t.handshake.over t.handshake.agreed refl refl e
 
-over_still : (s : Session) (c : Came) → s.handshake.over ≡ true → with_message s c ≡ s
+pub over_still : (s : Session) (c : Came) → s.handshake.over ≡ true → with_message s c ≡ s
 over_still s c over =
     ap (λ o. if o then s
     else with_either (record s { handshake = advanced s.handshake c.message }) (unmarked s.resends (unique_of c.message)) c.refused

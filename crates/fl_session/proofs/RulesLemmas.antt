@@ -18,10 +18,10 @@ use Rattle.fl_waiting.specs.Waiting.{is_parked}
 use Rattle.fl_wire.specs.Layout.{unique_of}
 
 -- these are the same in both
-record IsAlike (s t : Session) : Type 0 where
-  rules : s.rules ≡ t.rules
-  resends : s.resends ≡ t.resends
-  handshake : s.handshake ≡ t.handshake
+pub record IsAlike (s t : Session) : Type 0 where
+  pub rules : s.rules ≡ t.rules
+  pub resends : s.resends ≡ t.resends
+  pub handshake : s.handshake ≡ t.handshake
 
 alike_on : (s t u : Session) → IsAlike s t → IsAlike t u → IsAlike s u
 alike_on s t u first second =
@@ -31,7 +31,7 @@ alike_on s t u first second =
       handshake = first.handshake ∙ second.handshake;
     }
 
-by_order : (s : Session) (refused : Bool) (order : Order) → IsAlike (with_order s refused order) s
+pub by_order : (s : Session) (refused : Bool) (order : Order) → IsAlike (with_order s refused order) s
 by_order s true order = record { rules = refl; resends = refl; handshake = refl }
 by_order s false order = record { rules = refl; resends = refl; handshake = refl }
 

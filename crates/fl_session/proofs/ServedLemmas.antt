@@ -5,22 +5,24 @@ use Rattle.std.proofs.lemmas.List.Elements.{All-nil}
 use Rattle.std.proofs.KnownBytes.{Appends-kept, Appends-nil, Consumes-kept, Consumes-nil}
 use Rattle.std.specs.Io.KnownBytes.{Keeps}
 use Rattle.std.proofs.Common.{inl, inr}
-use Rattle.std.specs.Prelude.{◌⊎◌, IfSome}
+use Rattle.std.specs.Prelude.{◌⊎◌, ◌≢◌, IfSome, IsSome, if◌then◌else◌}
 use mathlib.Core.List.{IsPrefix}
 use Rattle.fl_desk.specs.Legal.{IsLegal, nothing}
 use Rattle.fl_history.specs.declared.history.Line.{Line}
 use Rattle.fl_session.proofs.RulesLemmas.{as_far, rules_from}
 use Rattle.fl_session.specs.Inside.UnderWay.{HasEnded, Way}
-use Rattle.fl_session.specs.Recorded.{journal_lines}
-use Rattle.fl_session.specs.Served.{AreSent, IsAheadFrom, IsServed, IsServedFrom}
-use Rattle.fl_session.specs.Session.{Came, Session, messages_of, session_behind, session_from}
+use Rattle.fl_session.specs.Recorded.{done_of, journal_lines}
+use Rattle.fl_session.specs.Served.{AreSent, IsServed, IsServedAhead, IsServedAheadFrom, IsServedFrom}
+use Rattle.fl_session.specs.Session.{Session, messages_of, session_behind, session_from}
 use Rattle.fl_session.specs.declared.done.Done.{Done}
+use Rattle.fl_session.specs.declared.recorded.Recorded.{Recorded}
 use Rattle.fl_session.specs.declared.server.Server.{Server}
 use Rattle.fl_transport.specs.Collecting.{AreGiven}
 use Rattle.fl_transport.specs.Ending.{EndsBy, IsEnding, IsRead}
 use Rattle.fl_transport.specs.Handshake.{handshake_of}
+use Rattle.fl_transport.specs.Streams.{Streams}
 use Rattle.fl_transport.specs.declared.fault.Fault.{Fault}
-use Rattle.fl_transport.specs.declared.fault.Fault.TheVariants.{NoMemory, Unstored}
+use Rattle.fl_transport.specs.declared.fault.Fault.TheVariants.{NoMemory, Unstored, Write}
 use Rattle.fl_waiting.specs.declared.rules.Rules.{Rules}
 use Rattle.fl_wire.specs.Frame.{IsMessage}
 use Rattle.fl_wire.specs.Spell.{IsReply}
@@ -60,62 +62,55 @@ ends_by fault told over broken messages rest left same (inl unstored) kept on = 
 ends_by fault told over broken messages rest left same (inr ending) kept on =
     inr (on (subst (λ o. IsEnding fault o rest left) same ending))
 
--- a session that ended, of which nothing waits, is served behind the lines that its desk began with
-pub served : {K : Type 0} (rules : Rules) (base : List Line) (resends : Bool) (first : Session) (way : Way) (server : Server K)
-    (fault : Option Fault) (done : Done) → first ≡ session_behind rules base resends → way.out.waiting ≡ []
-    → HasEnded first way server fault → done.history ≡ server.desk.lines
+-- A session that ended, of which nothing waits, is served behind the lines that its desk began with, and what it wrote
+-- stands behind its lines.
+pub served : {K : Type 0} (rules : Rules) (base stored : List Line) (resends : Bool) (first : Session) (way : Way)
+    (server : Server K) (fault : Option Fault) (done : Done) → first ≡ session_behind rules base resends
+    → way.out.waiting ≡ [] → HasEnded first way server fault → done.history ≡ server.desk.lines
     → (fault ≡ Some Unstored → done.fault ≡ Some Unstored)
     → ((messages : List (List ℕ)) (rest : List ℕ) (left : Option (List ℕ))
     → IsEnding fault (handshake_of messages).over rest left → EndsBy done.fault way.out.broken messages rest left)
-    → done.refused ≡ server.refused
-    → IsServedFrom (session_behind rules base resends)
+    → done.refused ≡ server.refused → stored ≡ server.desk.stored
+    → IsServedAheadFrom (session_behind rules base resends)
     (record { left = way.left; left_now = way.left_now; held = way.start; held_now = way.out.held })
-    way.out.broken done
-served rules base resends first way server fault done same none began history kept told refused =
+    way.out.broken done stored
+served rules base stored resends first way server fault done same none began history kept told refused is =
     let ended = ends_as first (session_behind rules base resends) way server fault same began in
     let session = ended.under in
     let given = session.given in
+    let ahead = session.ahead in
     let Q : List ℕ → Type 0 = λ waiting.
     AreGiven way.out.broken given.sent waiting (session_from (session_behind rules base resends) session.came).replies in
+    let C : List Line → Type 0 = λ l.
+    (ahead.sent ≡ []) ⊎ IsPrefix (session_from (session_behind rules base resends) ahead.front).lines l in
     record {
-      came = session.came;
-      rest = ended.rest;
-      sent = given.sent;
-      is_read = session.is_read;
-      bounded = ended.bounded;
-      history = history ∙ ap (λ s. s.lines) session.stands;
-      refused = refused ∙ ap (λ s. s.refused) session.stands;
-      framed = given.framed;
-      written = given.written;
-      are_sent = all_sent way.out.broken given.sent (session_from (session_behind rules base resends) session.came).replies
-          (subst Q none given.are_given);
-      ending = ends_by fault done.fault server.handshake.over way.out.broken (messages_of session.came) ended.rest
-          way.left_now
-          (ap (λ h. h.over) (ap (λ s. s.handshake) session.stands ∙ as_far (session_behind rules base resends) session.came refl))
-          ended.ending kept (told (messages_of session.came) ended.rest way.left_now);
-    }
-
--- what it wrote is behind its lines
-pub ahead_of : {K : Type 0} (rules : Rules) (base stored : List Line) (resends : Bool) (first : Session) (way : Way) (server : Server K)
-    (fault : Option Fault) → first ≡ session_behind rules base resends → HasEnded first way server fault → stored ≡ server.desk.stored
-    → IsAheadFrom (session_behind rules base resends)
-    (record { left = way.left; left_now = way.left_now; held = way.start; held_now = way.out.held }) stored
-ahead_of rules base stored resends first way server fault same began is =
-    let ended = ends_as first (session_behind rules base resends) way server fault same began in
-    let session = ended.under in
-    let ahead = session.ahead in
-    let R : List Came → Type 0 = λ came. IsRead way.left way.left_now (messages_of came) ended.rest in
-    record {
-      front = ahead.front;
-      back = ahead.back;
-      rest = ended.rest;
-      sent = ahead.sent;
-      owed = ahead.owed;
-      is_read = subst R (sym ahead.is) session.is_read;
-      written = ahead.written;
-      parts = ahead.parts;
-      covered = subst (λ l. (ahead.sent ≡ []) ⊎ IsPrefix (session_from (session_behind rules base resends) ahead.front).lines l) (sym is)
-          ahead.covered;
+      served = record {
+        came = session.came;
+        rest = ended.rest;
+        sent = given.sent;
+        is_read = session.is_read;
+        bounded = ended.bounded;
+        history = history ∙ ap (λ s. s.lines) session.stands;
+        refused = refused ∙ ap (λ s. s.refused) session.stands;
+        framed = given.framed;
+        written = given.written;
+        are_sent = all_sent way.out.broken given.sent (session_from (session_behind rules base resends) session.came).replies
+            (subst Q none given.are_given);
+        ending = ends_by fault done.fault server.handshake.over way.out.broken (messages_of session.came) ended.rest
+            way.left_now
+            (ap (λ h. h.over) (ap (λ s. s.handshake) session.stands ∙ as_far (session_behind rules base resends) session.came refl))
+            ended.ending kept (told (messages_of session.came) ended.rest way.left_now);
+      };
+      ahead = record {
+        front = ahead.front;
+        back = ahead.back;
+        sent = ahead.sent;
+        owed = ahead.owed;
+        is = ahead.is;
+        written = ahead.written;
+        parts = ahead.parts;
+        covered = subst C (sym is) ahead.covered;
+      };
     }
 
 -- its desk has these rules
@@ -148,3 +143,44 @@ pub recorded_legal : {K : Type 0} (rules : Rules) (lines : K → List Line) (jou
     → IfSome journal (λ k. IsLegal rules (lines k)) → IsLegal rules (journal_lines lines journal)
 recorded_legal rules lines None legal = nothing
 recorded_legal rules lines (Some journal) legal = legal
+
+-- what is so of each journal is so of one that is there
+there_of : {K : Type 0} (IsSo : K → Type 0) (Q : Type 0) (journal : Option K) → IsSome journal → IfSome journal IsSo
+    → ((k : K) → IsSo k → Q) → Q
+there_of IsSo Q None there so on = absurd (cc there)
+there_of IsSo Q (Some k) there so on = on k so
+
+-- a session behind no lines was served
+pub served_alone : {K : Type 0} (rules : Rules) (base : List Line) (streams : Streams) (broken : Bool)
+    (lines stored : K → List Line) (it : Recorded K) → base ≡ [] → IsSome it.journal
+    → IfSome it.journal (λ k.
+    IsServedAheadFrom (session_behind rules base false) streams broken (done_of lines it) (stored k))
+    → IsServed rules streams broken (done_of lines it)
+served_alone {K} rules base streams broken lines stored it none there so =
+    let P : List Line → Type 0 = λ base. IsServedFrom (session_behind rules base false) streams broken (done_of lines it) in
+    let IsSo : K → Type 0 = λ k. IsServedAheadFrom (session_behind rules base false) streams broken (done_of lines it) (stored k) in
+    subst P none (there_of IsSo (P base) it.journal there so (λ k so. so.served))
+
+-- the same, and what it wrote stands behind its lines
+pub ahead_alone : {K : Type 0} (rules : Rules) (base : List Line) (streams : Streams) (broken : Bool)
+    (lines stored : K → List Line) (it : Recorded K) → base ≡ []
+    → IfSome it.journal (λ k.
+    IsServedAheadFrom (session_behind rules base false) streams broken (done_of lines it) (stored k))
+    → IfSome it.journal (λ k. IsServedAhead rules streams broken (done_of lines it) (stored k))
+ahead_alone rules base streams broken lines stored it none so =
+    let P : List Line → Type 0 = λ base. IfSome it.journal (λ k.
+    IsServedAheadFrom (session_behind rules base false) streams broken (done_of lines it) (stored k)) in
+    subst P none so
+
+-- how a session ended says that lines were stored
+pub ending_stored : (fault : Option Fault) (over : Bool) (rest : List ℕ) (left : Option (List ℕ)) → IsEnding fault over rest left
+    → fault ≢ Some Unstored
+ending_stored fault over rest left ending is =
+    let P : Option Fault → Type 0 = λ f. IsEnding f over rest left in subst P is ending
+
+-- what is told of a fault that isn't about lines, isn't about them either
+pub told_stored : (fault told : Option Fault) (broken : Bool) → (IsSome fault → told ≡ fault)
+    → (fault ≡ None → told ≡ (if broken then Some Write else None)) → fault ≢ Some Unstored → told ≢ Some Unstored
+told_stored None told true reader writer not is = let e = writer refl in absurd (cc (e, is))
+told_stored None told false reader writer not is = let e = writer refl in absurd (cc (e, is))
+told_stored (Some fault) told broken reader writer not is = not (sym (reader refl) ∙ is)

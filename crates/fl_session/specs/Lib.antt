@@ -1,5 +1,6 @@
 pub mod Again
 pub mod AsOne
+pub mod CutOff
 pub mod Inside
 pub mod Known
 pub mod Once

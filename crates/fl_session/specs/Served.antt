@@ -43,24 +43,31 @@ IsServedBehind rules base streams broken done = IsServedFrom (session_behind rul
 abbrev pub IsServed : Rules → Streams → Bool → Done → Type 0
 IsServed rules streams broken done = IsServedFrom (opening_session rules) streams broken done
 
--- Whatever the writer holds behind what it held are replies to messages at the front of those that came, all of them or a
--- beginning, and the lines of the session that began so and goes on by these messages are stored, unless nothing was
+-- Whatever the writer holds behind what it held are replies to messages at the front of these, all of them or a
+-- beginning, and the lines of the session that began so and goes on by those messages are stored, unless nothing was
 -- written.
-pub record IsAheadFrom (first : Session) (streams : Streams) (stored : List Line) : Type 0 where
+pub record IsAheadFrom (first : Session) (came : List Came) (streams : Streams) (stored : List Line) : Type 0 where
   pub front : List Came
   pub back : List Came
-  pub rest : List ℕ
   pub sent : List ℕ
   pub owed : List ℕ
-  pub is_read : IsRead streams.left streams.left_now (messages_of (front ++ back)) rest
+  pub is : front ++ back ≡ came
   pub written : Appends streams.held streams.held_now sent
   pub parts : sent ++ owed ≡ concat (session_from first front).replies
   pub covered : (sent ≡ []) ⊎ IsPrefix (session_from first front).lines stored
 
+-- A session that began so was served, and of the very messages that gave its history, each with what was refused, the
+-- writer holds replies behind stored lines.
+pub record IsServedAheadFrom (first : Session) (streams : Streams) (broken : Bool) (done : Done) (stored : List Line)
+    : Type 0 where
+  pub served : IsServedFrom first streams broken done
+  pub ahead : IsAheadFrom first served.came streams stored
+
 -- the same of a session that goes on behind these lines, and knows messages that are sent again
-abbrev pub IsAheadBehind : Rules → List Line → Streams → List Line → Type 0
-IsAheadBehind rules base streams stored = IsAheadFrom (session_behind rules base true) streams stored
+abbrev pub IsServedAheadBehind : Rules → List Line → Streams → Bool → Done → List Line → Type 0
+IsServedAheadBehind rules base streams broken done stored =
+    IsServedAheadFrom (session_behind rules base true) streams broken done stored
 
 -- the same of a session behind no lines, to which each message is new
-abbrev pub IsAhead : Rules → Streams → List Line → Type 0
-IsAhead rules streams stored = IsAheadFrom (opening_session rules) streams stored
+abbrev pub IsServedAhead : Rules → Streams → Bool → Done → List Line → Type 0
+IsServedAhead rules streams broken done stored = IsServedAheadFrom (opening_session rules) streams broken done stored

@@ -1,6 +1,6 @@
 //! How a session reads its stream, and answers one message after another.
 
-ghost use Rattle.std.specs.Prelude.{◌≡◌, ℕ, Option, List, [], false};
+ghost use Rattle.std.specs.Prelude.{◌≡◌, ◌≢◌, ℕ, Option, Some, List, [], IsTrue, false};
 ghost use Rattle.fl_session.specs.Inside.Serving.{IsFresh, IsReady, session_with};
 ghost use Rattle.fl_session.specs.Inside.UnderWay.{HasEnded, Rests};
 ghost use Rattle.fl_transport.specs.Collecting.{outgoing};
@@ -20,7 +20,7 @@ pub(crate) fn serve_all<R: Read, W: Write, J: Journal>(
     r: &mut R,
     inbox: &mut Inbox,
     server: &mut Server<J>,
-    replying: &mut Replying<'_, W>,
+    replying: &mut Replying<'_, W, J>,
 ) -> Option<Fault>
     requires unread { IsUnread inbox.old }
     requires fresh { IsFresh server.old }
@@ -34,6 +34,7 @@ pub(crate) fn serve_all<R: Read, W: Write, J: Journal>(
       start = W.contents (writer_of replying.old.batch.out).now;
       out = outgoing W.contents replying.new.batch;
     }) server.new result }
+    ensures stored { IsTrue J.infallible → result ≢ Some Fault.Unstored }
 {
     let fault = answer_all(r, inbox, server, replying);
     rest(server, replying);
@@ -49,7 +50,7 @@ fn answer_all<R: Read, W: Write, J: Journal>(
     r: &mut R,
     inbox: &mut Inbox,
     server: &mut Server<J>,
-    replying: &mut Replying<'_, W>,
+    replying: &mut Replying<'_, W, J>,
 ) -> Option<Fault>
     requires unread { IsUnread inbox.old }
     requires fresh { IsFresh server.old }
@@ -62,6 +63,7 @@ fn answer_all<R: Read, W: Write, J: Journal>(
       start = W.contents (writer_of replying.old.batch.out).now;
       out = outgoing W.contents replying.new.batch;
     }) server.new result }
+    ensures stored { IsTrue J.infallible → result ≢ Some Fault.Unstored }
 {
     while !server.handshake.over {
         if replying.lost {
@@ -89,7 +91,7 @@ fn answer_all<R: Read, W: Write, J: Journal>(
 }
 
 // No whole message is at hand, and the next read may wait for one: lines are stored, and what is collected goes out.
-fn rest<W: Write, J: Journal>(server: &mut Server<J>, replying: &mut Replying<'_, W>)
+fn rest<W: Write, J: Journal>(server: &mut Server<J>, replying: &mut Replying<'_, W, J>)
     ensures same { (writer_of replying.new.batch.out).ghost_name ≡ (writer_of replying.old.batch.out).ghost_name }
     ensures over { server.new.handshake.over ≡ server.old.handshake.over }
     ensures ready { IsReady server.old → IsReady server.new }

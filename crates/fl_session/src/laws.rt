@@ -1,31 +1,75 @@
 //! Laws of the definitions, in the words of their subject. Each is the contract of an empty function.
 //!
-//! The first five say what a session does that goes on behind the lines of one that was cut off. The others say how its
-//! client meets their conditions: it uses each unique for one message, and sends again, with a mark, each that it has
-//! no reply for and whose order or reply is among the last 65,536 lines, or whose request is parked, or that is new.
+//! The first three say what a server that was killed leaves, and from what the next one goes on. Five say what a session
+//! does that goes on behind the lines of one that was cut off. The others say how its client meets their conditions: it
+//! uses each unique for one message, and sends again, with a mark, each that it has no reply for and whose order or
+//! reply is among the last 65,536 lines, or whose request is parked, or that is new.
 
-ghost use Rattle.std.specs.Prelude.{◌≡◌, ◌≤◌, ℕ, ◌+◌, true, false, All, Contains, List, [], ◌∷◌, ◌++◌, length, take};
-ghost use Rattle.std.specs.Prelude.{drop};
+ghost use Rattle.std.specs.Prelude.{◌≡◌, ◌≤◌, ℕ, ◌+◌, Bool, true, false, All, Contains, List, [], ◌∷◌, ◌++◌, length, take};
+ghost use Rattle.std.specs.Prelude.{drop, replicate, Some};
+ghost use mathlib.Core.List.{IsPrefix};
+ghost use Rattle.fl_desk.specs.Legal.{IsLegal};
 ghost use Rattle.fl_desk.specs.Replay.{state_after};
+ghost use Rattle.fl_history.specs.declared.history.Line.{Line};
+ghost use Rattle.fl_order.specs.OpKind.{kind_of_opcode};
+ghost use Rattle.fl_order.specs.declared.kind.OpKind.TheVariants as kinds;
 ghost use Rattle.fl_order.specs.declared.order.Order.{Order};
 ghost use Rattle.fl_order.specs.declared.told.Told.{Told};
 ghost use Rattle.fl_session.specs.AsOne.{AllPlain, AreAsOne, IsCutInside, IsSentAgain, part_of, replies_again};
+ghost use Rattle.fl_session.specs.CutOff.{AreTakenOf, cut_in, with_replies};
 ghost use Rattle.fl_session.specs.Known.{AreMarked, HaveBatch, HaveNothing, HaveOrder, HaveOwnUniques, HaveReply};
 ghost use Rattle.fl_session.specs.Known.{IsBatchAgain, IsOrderAgain, with_mark};
 ghost use Rattle.fl_session.specs.Once.{AllComeAgain, AreNew, ComesAgain, IsUnknown, SaysTheSame, resumed, under_way};
-ghost use Rattle.fl_session.specs.Session.{Came, Session, session_from, session_of, with_message, with_orders};
-ghost use Rattle.fl_transport.specs.Handshake.{incoming_by};
+ghost use Rattle.fl_session.specs.Session.{Came, Session, session_behind, session_from, session_of, with_message};
+ghost use Rattle.fl_session.specs.Session.{with_orders};
+ghost use Rattle.fl_transport.specs.Handshake.{incoming_by, is_agreed};
 ghost use Rattle.fl_transport.specs.Response.{bytes_of};
 ghost use Rattle.fl_transport.specs.declared.handshake.Incoming.TheVariants as incoming;
 ghost use Rattle.fl_transport.specs.declared.response.Response.{Response};
 ghost use Rattle.fl_waiting.specs.Waiting.{is_parked};
 ghost use Rattle.fl_waiting.specs.declared.rules.Rules.{Rules};
 ghost use Rattle.fl_wire.specs.Batch.{forgets_in};
+ghost use Rattle.fl_wire.specs.Init.{init_spelling, init_step};
+ghost use Rattle.fl_wire.specs.Layout.{opcode_of, unique_of};
 ghost use Rattle.fl_wire.specs.Says.{said};
 ghost use Rattle.fl_wire.specs.Spell.{spelling_of};
 
 use fl_core::laws::settling_answers_the_oldest_first;
 use fl_desk::laws::{a_legal_history_goes_on_by_orders, own_reply_comes_first};
+
+/// A server was killed. The lines that it stored are a prefix of its history, and they have all lines of its first
+/// messages: of those whose replies its client got, by `IsAheadFrom`. With the replies that they lack they are legal. Then
+/// these are the lines of a session that took the first messages, some of the others, and perhaps a part of a batch. The
+/// laws below speak of such a session. If no order of the part was refused, it is a `part_of`.
+pub fn what_a_cut_session_leaves_is_a_session()
+    ensures left { (rules : Rules) (first others : List Came) (lines : List Line) (missing : List Told)
+        → IsPrefix (session_of rules first).lines lines → IsPrefix lines (session_of rules (first ++ others)).lines
+        → IsLegal rules (with_replies lines missing) → AreTakenOf rules first others (with_replies lines missing) }
+    ensures unrefused { (s : Session) (batch : Came) (count : ℕ) (later : List Bool)
+        → batch.refused ≡ replicate count false ++ later → cut_in s batch count ≡ part_of s batch.message count }
+{
+    a_legal_history_goes_on_by_orders();
+}
+
+/// A server starts behind no lines, and knows messages that are sent again. As long as none has a mark, its session is
+/// that of a server that does not know them: each reply, that to an INIT too, each line, and how far it is.
+pub fn to_know_marks_changes_nothing_without_one()
+    ensures { (rules : Rules) (came : List Came) → AllPlain came
+        → session_from (session_behind rules [] true) came ≡ record (session_of rules came) { resends = true } }
+{}
+
+/// A server goes on behind the lines of a session that was cut off. It first answers an INIT, as any server does. From
+/// then on it is as far as that session was, so it is the `resumed` of the laws below, with one reply more in front.
+pub fn a_server_that_goes_on_answers_its_init_first()
+    ensures { (first : Session) (init : Came) (came : List Came) → first.handshake ≡ under_way
+        → kind_of_opcode (opcode_of init.message) ≡ Some kinds.Init → is_agreed (init_step init.message) ≡ true
+        → AllPlain (init ∷ [])
+        → session_from (session_behind first.rules first.lines true) (init ∷ came)
+        ≡ record (session_from (resumed first) came) {
+          replies = init_spelling (unique_of init.message) (init_step init.message)
+              ∷ (session_from (resumed first) came).replies;
+        } }
+{}
 
 /// A session was cut off. Of the messages that had been sent to it, its lines have the orders of `taken`, and lack
 /// those of `unread`. Another goes on behind these lines. Once its INIT is agreed, messages come to it again whose

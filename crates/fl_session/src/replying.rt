@@ -1,6 +1,6 @@
 //! Replies on their way out, each behind the lines of its order.
 
-ghost use Rattle.std.specs.Prelude.{◌≡◌, [], ◌∷◌, map};
+ghost use Rattle.std.specs.Prelude.{◌≡◌, [], ◌∷◌, IsTrue, false, map};
 ghost use Rattle.fl_session.specs.Inside.UnderWay.{WritesBehind};
 ghost use Rattle.fl_transport.specs.Collecting.{Collects, outgoing};
 ghost use Rattle.fl_transport.specs.Outbox.{writer_of};
@@ -14,18 +14,22 @@ use fl_order::Told;
 use fl_transport::{ReplyBatch, Response};
 use fl_wire::InitStep;
 use std::io::Write;
+use std::marker::PhantomData;
 
 /// Replies that are collected, and go out together once the lines of all orders are stored.
 #[derive(Drop)]
-pub(crate) struct Replying<'a, W> {
+pub(crate) struct Replying<'a, W, J: Journal> {
     pub batch: ReplyBatch<'a, W>,
     /// Lines couldn't be stored, and the replies that waited for them are lost.
     pub lost: bool,
+    /// Where the lines of all orders go.
+    pub journal: PhantomData<J>,
+    ghost stored: { IsTrue J.infallible → lost ≡ false },
 }
 
-impl<W: Write> Replying<'_, W> {
+impl<W: Write, J: Journal> Replying<'_, W, J> {
     /// Stores all lines, and then sends what is collected.
-    pub(crate) fn send<J: Journal>(&mut self, desk: &mut Desk<J>)
+    pub(crate) fn send(&mut self, desk: &mut Desk<J>)
         ensures same { (writer_of self.new.batch.out).ghost_name ≡ (writer_of self.old.batch.out).ghost_name }
         ensures desk { (desk.new.lines ≡ desk.old.lines) × (desk.new.present ≡ desk.old.present) }
         ensures none { self.new.batch.replies ≡ [] }
@@ -42,7 +46,7 @@ impl<W: Write> Replying<'_, W> {
     }
 
     /// Collects what a message is answered. If there is no more room, what was collected before goes out.
-    pub(crate) fn collect<J: Journal>(&mut self, desk: &mut Desk<J>, response: &Response)
+    pub(crate) fn collect(&mut self, desk: &mut Desk<J>, response: &Response)
         ensures same { (writer_of self.new.batch.out).ghost_name ≡ (writer_of self.old.batch.out).ghost_name }
         ensures desk { (desk.new.lines ≡ desk.old.lines) × (desk.new.present ≡ desk.old.present) }
         ensures collected { Collects (outgoing W.contents self.old.batch) (outgoing W.contents self.new.batch)
@@ -58,7 +62,7 @@ impl<W: Write> Replying<'_, W> {
         }
     }
 
-    fn collect_init<J: Journal>(&mut self, desk: &mut Desk<J>, unique: u64, step: &InitStep)
+    fn collect_init(&mut self, desk: &mut Desk<J>, unique: u64, step: &InitStep)
         ensures same { (writer_of self.new.batch.out).ghost_name ≡ (writer_of self.old.batch.out).ghost_name }
         ensures desk { (desk.new.lines ≡ desk.old.lines) × (desk.new.present ≡ desk.old.present) }
         ensures collected { Collects (outgoing W.contents self.old.batch) (outgoing W.contents self.new.batch)
@@ -70,7 +74,7 @@ impl<W: Write> Replying<'_, W> {
         self.batch.begin_init(unique, step);
     }
 
-    fn collect_one<J: Journal>(&mut self, desk: &mut Desk<J>, told: &Told)
+    fn collect_one(&mut self, desk: &mut Desk<J>, told: &Told)
         ensures same { (writer_of self.new.batch.out).ghost_name ≡ (writer_of self.old.batch.out).ghost_name }
         ensures desk { (desk.new.lines ≡ desk.old.lines) × (desk.new.present ≡ desk.old.present) }
         ensures collected { Collects (outgoing W.contents self.old.batch) (outgoing W.contents self.new.batch)
@@ -84,7 +88,7 @@ impl<W: Write> Replying<'_, W> {
         }
     }
 
-    fn collect_all<J: Journal>(&mut self, desk: &mut Desk<J>, tolds: &[Told])
+    fn collect_all(&mut self, desk: &mut Desk<J>, tolds: &[Told])
         ensures same { (writer_of self.new.batch.out).ghost_name ≡ (writer_of self.old.batch.out).ghost_name }
         ensures desk { (desk.new.lines ≡ desk.old.lines) × (desk.new.present ≡ desk.old.present) }
         ensures collected { Collects (outgoing W.contents self.old.batch) (outgoing W.contents self.new.batch)

@@ -58,7 +58,7 @@ impl<J: Journal> Server<J> {
     }
 
     /// Answers a message of a session that isn't over.
-    pub(crate) fn answer<W: Write>(&mut self, replying: &mut Replying<'_, W>, frame: &Frame)
+    pub(crate) fn answer<W: Write>(&mut self, replying: &mut Replying<'_, W, J>, frame: &Frame)
         requires live { self.old.handshake.over ≡ false }
         requires ready { IsReady self.old }
         ensures ready { IsReady self.new }
@@ -73,7 +73,7 @@ impl<J: Journal> Server<J> {
     }
 
     // Answers a message that is new.
-    fn answer_new<W: Write>(&mut self, replying: &mut Replying<'_, W>, frame: &Frame)
+    fn answer_new<W: Write>(&mut self, replying: &mut Replying<'_, W, J>, frame: &Frame)
         requires live { self.old.handshake.over ≡ false }
         requires ready { IsReady self.old }
         requires new { unmarked (is_some self.old.recent) (unique_of frame.now) ≡ None }
@@ -91,7 +91,12 @@ impl<J: Journal> Server<J> {
     }
 
     // Answers a message that is sent again, which had this unique.
-    fn answer_again<W: Write>(&mut self, replying: &mut Replying<'_, W>, frame: &Frame, unique: u64)
+    fn answer_again<W: Write>(
+        &mut self,
+        replying: &mut Replying<'_, W, J>,
+        frame: &Frame,
+        unique: u64,
+    )
         requires live { self.old.handshake.over ≡ false }
         requires ready { IsReady self.old }
         requires again { unmarked (is_some self.old.recent) (unique_of frame.now) ≡ Some unique }
@@ -125,7 +130,7 @@ impl<J: Journal> Server<J> {
     }
 
     // Takes an order that is sent again, if no request of its unique is parked, and the lines don't have it.
-    fn take_again<W: Write>(&mut self, replying: &mut Replying<'_, W>, order: &Order)
+    fn take_again<W: Write>(&mut self, replying: &mut Replying<'_, W, J>, order: &Order)
         requires ready { IsReady self.old }
         requires known { IsSome self.old.recent }
         ensures ready { IsReady self.new }
@@ -145,7 +150,12 @@ impl<J: Journal> Server<J> {
     }
 
     // The same of a batch, of whose orders the lines may have the first.
-    fn take_rest<W: Write>(&mut self, replying: &mut Replying<'_, W>, orders: &Batch, unique: u64)
+    fn take_rest<W: Write>(
+        &mut self,
+        replying: &mut Replying<'_, W, J>,
+        orders: &Batch,
+        unique: u64,
+    )
         requires ready { IsReady self.old }
         requires known { IsSome self.old.recent }
         ensures ready { IsReady self.new }
@@ -163,7 +173,7 @@ impl<J: Journal> Server<J> {
     // Takes the orders of a batch from one on, under this unique.
     fn take_from<W: Write>(
         &mut self,
-        replying: &mut Replying<'_, W>,
+        replying: &mut Replying<'_, W, J>,
         orders: &Batch,
         unique: u64,
         start: u32,
@@ -180,7 +190,7 @@ impl<J: Journal> Server<J> {
     }
 
     // Takes orders of worker 0, each whatever became of those before it, and keeps their replies.
-    fn take_all<W: Write>(&mut self, replying: &mut Replying<'_, W>, orders: &Batch)
+    fn take_all<W: Write>(&mut self, replying: &mut Replying<'_, W, J>, orders: &Batch)
         requires { IsReady self.old }
         ensures ready { IsReady self.new }
         ensures same { (writer_of replying.new.batch.out).ghost_name ≡ (writer_of replying.old.batch.out).ghost_name }
@@ -193,7 +203,7 @@ impl<J: Journal> Server<J> {
     }
 
     // Takes an order of worker 0, and keeps its replies.
-    fn take_one_of<W: Write>(&mut self, replying: &mut Replying<'_, W>, order: &Order)
+    fn take_one_of<W: Write>(&mut self, replying: &mut Replying<'_, W, J>, order: &Order)
         requires { IsReady self.old }
         ensures ready { IsReady self.new }
         ensures same { (writer_of replying.new.batch.out).ghost_name ≡ (writer_of replying.old.batch.out).ghost_name }
@@ -214,7 +224,7 @@ impl<J: Journal> Server<J> {
     }
 
     // Takes an order of worker 0, and collects its replies.
-    fn take<W: Write>(&mut self, replying: &mut Replying<'_, W>, order: &Order)
+    fn take<W: Write>(&mut self, replying: &mut Replying<'_, W, J>, order: &Order)
         requires { IsReady self.old }
         ensures ready { IsReady self.new }
         ensures same { (writer_of replying.new.batch.out).ghost_name ≡ (writer_of replying.old.batch.out).ghost_name }

@@ -1,10 +1,11 @@
 //! A whole session of the FUSE protocol with one worker, over any reader and any writer.
 
-ghost use Rattle.std.specs.Prelude.{◌≡◌, ◌≢◌, ◌⊎◌, Bool, true, false, [], Option, None, Some, IfOk, IfSome, IsSome, OnErr, is_some};
+ghost use Rattle.std.specs.Prelude.{◌≡◌, ◌≢◌, ◌⊎◌, Bool, true, false, [], Option, None, Some, IfOk, IfSome, IsSome, IsTrue, OnErr};
+ghost use Rattle.std.specs.Prelude.{is_some};
 ghost use Rattle.std.specs.Io.KnownBytes.{Keeps};
 ghost use Rattle.fl_desk.specs.Legal.{IsLegal};
 ghost use Rattle.fl_session.specs.Recorded.{done_of};
-ghost use Rattle.fl_session.specs.Served.{IsAhead, IsAheadBehind, IsAheadFrom, IsServed, IsServedBehind, IsServedFrom};
+ghost use Rattle.fl_session.specs.Served.{IsServed, IsServedAhead, IsServedAheadBehind, IsServedAheadFrom};
 ghost use Rattle.fl_session.specs.Session.{session_behind};
 
 use crate::answering::serve_all;
@@ -19,6 +20,7 @@ use fl_order::NoMemory;
 use fl_transport::{Fault, Inbox, Outbox, ReplyBatch, ReplyBuffer};
 use std::alloc::Global;
 use std::io::{Read, Write};
+use std::marker::PhantomData;
 
 /// The result of a session, and whether a write failed.
 #[derive(Debug, Drop)]
@@ -35,12 +37,13 @@ pub struct Ended {
 /// the history is made before the first read. A read that fails ends the session, and so does a DESTROY after an INIT
 /// is agreed. After a write that failed it goes on, and writes no more.
 pub fn run_one<R: Read, W: Write>(alloc: Global, r: &mut R, w: &mut W, rules: Rules) -> Done
-    ensures { (broken : Bool) × IsServed rules (record {
+    ensures served { (broken : Bool) × IsServed rules (record {
       left = R.remaining r.old;
       left_now = R.remaining r.new;
       held = W.contents w.old;
       held_now = W.contents w.new;
     }) broken result }
+    ensures stored { result.fault ≢ Some Fault.Unstored }
 {
     let Ended { done, broken: _ } = run_session(alloc, r, w, rules);
     done
@@ -48,12 +51,13 @@ pub fn run_one<R: Read, W: Write>(alloc: Global, r: &mut R, w: &mut W, rules: Ru
 
 /// The same, and also gives whether a write failed.
 pub fn run_session<R: Read, W: Write>(alloc: Global, r: &mut R, w: &mut W, rules: Rules) -> Ended
-    ensures { IsServed rules (record {
+    ensures served { IsServed rules (record {
       left = R.remaining r.old;
       left_now = R.remaining r.new;
       held = W.contents w.old;
       held_now = W.contents w.new;
     }) result.broken result.done }
+    ensures stored { result.done.fault ≢ Some Fault.Unstored }
 {
     let (recorded, broken) = record_session(alloc, r, w, Lines::new(alloc), rules);
     let done = recorded.into_done(alloc);
@@ -77,17 +81,18 @@ pub fn record_session<R: Read, W: Write, J: Journal + Drop>(
       held = W.contents w.old;
       held_now = W.contents w.new;
     }) result.1 (done_of J.lines result.0) }
-    ensures ahead { IfSome result.0.journal (λ journal. IsAhead rules (record {
+    ensures ahead { IfSome result.0.journal (λ journal. IsServedAhead rules (record {
       left = R.remaining r.old;
       left_now = R.remaining r.new;
       held = W.contents w.old;
       held_now = W.contents w.new;
-    }) (J.stored journal)) }
+    }) result.1 (done_of J.lines result.0) (J.stored journal)) }
     ensures legal { IfSome result.0.journal (λ journal. IsLegal rules (J.lines journal)) }
     ensures back { IsSome result.0.journal ⊎ (result.0.fault ≡ Some Fault.NoMemory) }
     ensures nothing { result.0.fault ≡ Some Fault.NoMemory
         → (result.0.journal ≡ None) × Keeps (R.remaining r.old) (R.remaining r.new) }
     ensures unwritten { result.0.fault ≡ Some Fault.NoMemory → Keeps (W.contents w.old) (W.contents w.new) }
+    ensures stored { IsTrue J.infallible → result.0.fault ≢ Some Fault.Unstored }
 {
     let Ok(desk) = Desk::over(alloc, journal, rules) else {
         return (Recorded::nothing(alloc, Fault::NoMemory), false);
@@ -111,22 +116,17 @@ pub fn resume_session<R: Read, W: Write, J: Journal + Drop>(
 ) -> Result<(Recorded<J>, bool), NoMemory>
     requires rules { desk.present.rules ≡ rules }
     requires recent { recent ≡ desk.lines }
-    ensures served { IfOk result (λ ended. IsServedBehind rules desk.lines (record {
-      left = R.remaining r.old;
-      left_now = R.remaining r.new;
-      held = W.contents w.old;
-      held_now = W.contents w.new;
-    }) ended.1 (done_of J.lines ended.0)) }
-    ensures ahead { IfOk result (λ ended. IfSome ended.0.journal (λ journal.
-        IsAheadBehind rules desk.lines (record {
+    ensures served { IfOk result (λ ended. IfSome ended.0.journal (λ journal.
+        IsServedAheadBehind rules desk.lines (record {
           left = R.remaining r.old;
           left_now = R.remaining r.new;
           held = W.contents w.old;
           held_now = W.contents w.new;
-        }) (J.stored journal))) }
+        }) ended.1 (done_of J.lines ended.0) (J.stored journal))) }
     ensures legal { IfOk result (λ ended. IfSome ended.0.journal (λ journal. IsLegal rules (J.lines journal))) }
     ensures back { IfOk result (λ ended. IsSome ended.0.journal) }
     ensures fault { IfOk result (λ ended. ended.0.fault ≢ Some Fault.NoMemory) }
+    ensures stored { IfOk result (λ ended. IsTrue J.infallible → ended.0.fault ≢ Some Fault.Unstored) }
     ensures unread { OnErr result (Keeps (R.remaining r.old) (R.remaining r.new) × Keeps (W.contents w.old) (W.contents w.new)) }
 {
     serve_session(alloc, r, w, desk, Some(recent), rules)
@@ -144,22 +144,17 @@ fn serve_session<R: Read, W: Write, J: Journal + Drop>(
 ) -> Result<(Recorded<J>, bool), NoMemory>
     requires rules { desk.present.rules ≡ rules }
     requires recent { IfSome recent (λ lines. lines ≡ desk.lines) }
-    ensures served { IfOk result (λ ended. IsServedFrom (session_behind rules desk.lines (is_some recent)) (record {
-      left = R.remaining r.old;
-      left_now = R.remaining r.new;
-      held = W.contents w.old;
-      held_now = W.contents w.new;
-    }) ended.1 (done_of J.lines ended.0)) }
-    ensures ahead { IfOk result (λ ended. IfSome ended.0.journal (λ journal.
-        IsAheadFrom (session_behind rules desk.lines (is_some recent)) (record {
+    ensures served { IfOk result (λ ended. IfSome ended.0.journal (λ journal.
+        IsServedAheadFrom (session_behind rules desk.lines (is_some recent)) (record {
           left = R.remaining r.old;
           left_now = R.remaining r.new;
           held = W.contents w.old;
           held_now = W.contents w.new;
-        }) (J.stored journal))) }
+        }) ended.1 (done_of J.lines ended.0) (J.stored journal))) }
     ensures legal { IfOk result (λ ended. IfSome ended.0.journal (λ journal. IsLegal rules (J.lines journal))) }
     ensures back { IfOk result (λ ended. IsSome ended.0.journal) }
     ensures fault { IfOk result (λ ended. ended.0.fault ≢ Some Fault.NoMemory) }
+    ensures stored { IfOk result (λ ended. IsTrue J.infallible → ended.0.fault ≢ Some Fault.Unstored) }
     ensures unread { OnErr result (Keeps (R.remaining r.old) (R.remaining r.new) × Keeps (W.contents w.old) (W.contents w.new)) }
 {
     let mut inbox = Inbox::new(alloc)?;
@@ -171,9 +166,14 @@ fn serve_session<R: Read, W: Write, J: Journal + Drop>(
             out: Outbox::new(w),
         },
         lost: false,
+        journal: PhantomData,
     };
     let fault = serve_all(r, &mut inbox, &mut server, &mut replying);
-    let Replying { batch, lost: _ } = replying;
+    let Replying {
+        batch,
+        lost: _,
+        journal: _,
+    } = replying;
     let ReplyBatch { replies, out } = batch;
     // Here, since the proof finds no more what the writer holds if something is dropped behind it.
     drop(replies);

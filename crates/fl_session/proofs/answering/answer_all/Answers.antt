@@ -1,5 +1,6 @@
 use Rattle.std.proofs.Common.{◌∙◌, inl, refl, sym, arith, ap, length}
 use Rattle.fl_session.proofs.SessionLemmas.{way_first, way_more, way_rests, way_ends, way_read}
+use Rattle.fl_session.proofs.ServedLemmas.{ending_stored}
 use Rattle.fl_session.proofs.answering.answer_all.Goals as goal
 
 pub loop-server-init : goal.loop-server-init
@@ -41,3 +42,6 @@ pub returns-in-End-clause-ended : goal.returns-in-End-clause-ended
 returns-in-End-clause-ended g c = way_ends _ _ _ _ _ _ c.in-End.fault c.in-End.ensures.read
     c.in-End.ensures.bounded (c.rest.ensures.over ∙ c.loop-server-test.true) c.in-End.ensures.end
     (way_rests _ _ _ _ _ _ c.rest.ensures.rests c.loop-server.invariant.under)
+
+pub returns-in-End-clause-stored : goal.returns-in-End-clause-stored
+returns-in-End-clause-stored g c infallible = ending_stored _ _ _ _ c.in-End.ensures.end

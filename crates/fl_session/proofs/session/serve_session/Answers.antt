@@ -1,6 +1,6 @@
 use Rattle.std.proofs.Common.{rules, ◌≡◌, ℕ, List, [], Option, refl, subst, ◌∙◌}
 use Rattle.fl_desk.specs.Legal.{IsLegal}
-use Rattle.fl_session.proofs.ServedLemmas.{ahead_of, desk_under, served}
+use Rattle.fl_session.proofs.ServedLemmas.{desk_under, served, told_stored}
 use Rattle.fl_session.specs.Inside.Serving.{session_with}
 use Rattle.fl_session.specs.Inside.UnderWay.{HasEnded, Way}
 use Rattle.fl_session.specs.Session.{Session, session_behind}
@@ -29,30 +29,9 @@ returns-clause-served g c =
     HasEnded first (way (g.W.Write.contents c.args.w.now) (record out { held = held })) all.new.server all.result in
     let start : g.W.Write.contents (writer_of c.new-4.result).now ≡ g.W.Write.contents c.args.w.now = search rules in
     let whole = subst Q (search rules) (subst P start all.ensures.ended) in
-    rw c.into_parts-writer.ensures.broken (served _ _ _ _ _ _ _ _ same all.ensures.none whole
+    rw c.into_parts-writer.ensures.broken (served _ _ _ _ _ _ _ _ _ same all.ensures.none whole
     c.into_journal.ensures.lines (λ is. c.told.ensures.reader (rw is refl) ∙ is)
-    (rw (← c.into_parts-writer.ensures.broken) c.told.ensures.ends) refl)
-
-pub returns-clause-ahead : goal.returns-clause-ahead
-returns-clause-ahead g c =
-    let all = c.serve_all-fault in
-    let out = outgoing g.W.Write.contents all.new.replying.batch in
-    let made = c.in_ok-server in
-    let first : Session = session_with made.server [] in
-    let same : first ≡ session_behind c.args.rules c.args.desk.lines (is_some c.args.recent) =
-    rw (made.ensures.desk, made.ensures.recent, made.ensures.fresh.handshake, made.ensures.fresh.refused, c.requires.rules) refl in
-    let way : Option (List ℕ) → Outgoing → Way = λ start out. record {
-      left = g.R.Read.remaining c.args.r.now;
-      left_now = g.R.Read.remaining all.new.r;
-      start = start;
-      out = out;
-    } in
-    let P : Option (List ℕ) → Type 0 = λ start. HasEnded first (way start out) all.new.server all.result in
-    let Q : Option (List ℕ) → Type 0 = λ held.
-    HasEnded first (way (g.W.Write.contents c.args.w.now) (record out { held = held })) all.new.server all.result in
-    let start : g.W.Write.contents (writer_of c.new-4.result).now ≡ g.W.Write.contents c.args.w.now = search rules in
-    let whole = subst Q (search rules) (subst P start all.ensures.ended) in
-    ahead_of _ _ _ _ _ _ _ _ same whole c.into_journal.ensures.stored
+    (rw (← c.into_parts-writer.ensures.broken) c.told.ensures.ends) refl c.into_journal.ensures.stored)
 
 pub returns-clause-legal : goal.returns-clause-legal
 returns-clause-legal g c =
@@ -61,3 +40,7 @@ returns-clause-legal g c =
     let same : session_with made.server [] ≡ session_behind c.args.rules c.args.desk.lines (is_some c.args.recent) =
     rw (made.ensures.desk, made.ensures.recent, made.ensures.fresh.handshake, made.ensures.fresh.refused, c.requires.rules) refl in
     subst P (desk_under _ _ _ _ _ _ _ same c.serve_all-fault.ensures.ended) c.into_journal.ensures.legal
+
+pub returns-clause-stored : goal.returns-clause-stored
+returns-clause-stored g c infallible =
+    told_stored _ _ _ c.told.ensures.reader c.told.ensures.writer (c.serve_all-fault.ensures.stored infallible)

@@ -2,8 +2,8 @@ use Rattle.std.proofs.Common.{◌≡◌, List, ◌++◌, ◌∙◌, ap, sym, sub
 use Rattle.fl_desk.specs.Legal.{IsLegal}
 use Rattle.fl_history.specs.declared.history.Line.{Line}
 use Rattle.fl_judge.specs.Present.{told_lines}
-use Rattle.lockd_serve.proofs.Stored.{ahead_on, served_as, so_of}
-use Rattle.fl_session.specs.Served.{IsAheadBehind}
+use mathlib.Core.List.{IsPrefix}
+use Rattle.lockd_serve.proofs.Stored.{served_as, so_of}
 use Rattle.fl_stream.specs.Streams.{Stream}
 use Rattle.fl_transport.specs.Streams.{Streams}
 use Rattle.lockd_serve.proofs.behind.resume.Goals as goal
@@ -22,20 +22,20 @@ returns-clause-resumed g c =
       held = g.W.Write.contents c.args.w.now;
       held_now = g.W.Write.contents c.resume_session.new.w;
     } in
-    let ahead = so_of (λ (j : Stream). IsAheadBehind c.args.rules c.resume-desk.result.lines streams j.noted) ended.recorded.journal
-    c.in-Some.journal c.in-Some.is ended.ensures.ahead in
+    let more : List Line = c.finish-file.ensures.there.0 in
+    let grows : IsPrefix c.in-Some.journal.noted more = subst (λ n. IsPrefix n more) noted c.finish-file.ensures.there.1 in
+    let served = served_as (λ (j : Stream). j.lines) (λ (j : Stream). j.noted) c.args.rules c.resume-desk.result.lines base
+    streams ended.broken ended.recorded c.in-Some.journal c.into_stream.result.lines more c.in-Some.is same all grows
+    ended.ensures.served in
     record {
       lines = c.into_stream.result.lines;
-      stored = c.finish-file.ensures.there.0;
-      served = served_as (λ (j : Stream). j.lines) c.args.rules c.resume-desk.result.lines base _ ended.broken ended.recorded
-          c.in-Some.journal c.into_stream.result.lines c.in-Some.is same all ended.ensures.served;
+      stored = more;
+      served = served.served;
       legal = subst (IsLegal c.args.rules) (sym all)
           (so_of (λ (j : Stream). IsLegal c.args.rules j.lines) ended.recorded.journal c.in-Some.journal c.in-Some.is
           ended.ensures.legal);
       begun = c.finish-file.ensures.begun;
       whole = c.finish-file.ensures.whole;
       there = c.finish-file.ensures.there.2;
-      ahead = ahead_on c.args.rules base _ c.into_stream.result.noted c.finish-file.ensures.there.0
-          c.finish-file.ensures.there.1
-          (subst (λ n. IsAheadBehind c.args.rules base streams n) (sym noted) (subst (λ b. IsAheadBehind c.args.rules b streams c.in-Some.journal.noted) same ahead));
+      ahead = served.ahead;
     }
