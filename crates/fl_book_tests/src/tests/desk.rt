@@ -185,6 +185,17 @@ fn is_judged(rt: &impl Abort, alloc: Global, text: &str, fair: bool, wanted: Ver
 }
 
 #[test]
+fn a_desk_lends_its_arenas(rt: HostRuntime) {
+    let desk = Desk::new(rt.alloc(), Rules::standard()).expect(&rt, "memory");
+    let arenas = desk.arenas();
+    assert_eq!(&rt; arenas.locks.free(), 4096);
+    assert_eq!(&rt; arenas.parked.free(), 1024);
+    assert_eq!(&rt; arenas.directory.nodes.free(), 256);
+    assert_eq!(&rt; arenas.directory.names.free(), 256);
+    assert_eq!(&rt; arenas.directory.files.free(), 1024);
+}
+
+#[test]
 fn traces_are_judged(rt: HostRuntime) {
     is_judged(&rt, rt.alloc(), "", false, Verdict::Legal, true);
     is_judged(&rt, rt.alloc(), LOCKS, false, Verdict::Legal, true);
