@@ -1,7 +1,8 @@
 -- A batch of orders that was handed in.
-use Rattle.std.proofs.Common.{◌≡◌, ℕ, ◌+◌, ◌<◌, ◌≤◌, List, [], ◌∷◌, ◌++◌, length, refl, ap, sym, ◌∙◌, subst, arith}
+use Rattle.std.proofs.Common.{◌≡◌, ◌+◌, ◌<◌, ◌≤◌, List, [], ◌∷◌, ◌++◌, length, refl, ap, sym, ◌∙◌, subst, arith}
 use Rattle.std.proofs.Math.ListN.{get_or}
 use Rattle.fl_board.proofs.Answering.{handed_in_last}
+use Rattle.fl_board.specs.Inside.Recorded.{all_stored}
 use Rattle.fl_board.specs.Seats.{Place}
 use Rattle.fl_board.specs.Shown.{AreHandedIn, IsHandedIn}
 use Rattle.fl_desk.specs.Answered.{AreAnsweredLast, answered_by}
@@ -37,13 +38,12 @@ no_more_lists rules old new [] (ts ∷ lists) handed = absurd handed
 no_more_lists rules old new (o ∷ orders) (ts ∷ lists) handed =
     omega (arith, no_more_lists rules handed.0 new orders lists handed.3)
 
--- the place stays its worker's, what was shown there stays, and it counts the orders
+-- the place stays its worker's, and it counts the orders
 pub handed_same : (rules : Rules) (old new : Place) (orders : List Order) (lists : List (List Told))
     → AreHandedIn rules old orders lists new
-    → (new.worker ≡ old.worker) × (new.seen ≡ old.seen) × (new.count ≡ old.count + length lists)
+    → (new.worker ≡ old.worker) × (new.count ≡ old.count + length lists)
 handed_same rules old new orders [] handed = (
   ap (λ (p : Place). p.worker) handed,
-  ap (λ (p : Place). p.seen) handed,
   omega (arith, ap (λ (p : Place). p.count) handed),
 )
 handed_same rules old new [] (ts ∷ lists) handed = absurd handed
@@ -51,8 +51,7 @@ handed_same rules old new (o ∷ orders) (ts ∷ lists) handed =
     let one = handed.2 in
     let rest = handed_same rules handed.0 new orders lists handed.3 in (
       rest.0 ∙ handed.1,
-      rest.1 ∙ one.seen,
-      omega (arith, rest.2, one.count),
+      omega (arith, rest.1, one.count),
     )
 
 -- orders that were handed in at a seat are answered behind all that was handed in there
@@ -66,3 +65,42 @@ handed_in_answered rules old new (o ∷ orders) (ts ∷ lists) handed = (
   handed_in_last rules old handed.0 o ts handed.1 handed.2,
   handed_in_answered rules handed.0 new orders lists handed.3,
 )
+
+-- ---- what was handed in is stored, too
+
+pub stored_in : (rules : Rules) (old new : Place) (order : Order) (tolds : List Told) → IsHandedIn rules old order tolds new
+    → IsHandedIn rules old order tolds (all_stored new)
+stored_in rules old new order tolds one = record {
+  before = one.before;
+  own = one.own;
+  legal = one.legal;
+  had = one.had;
+  answered = one.answered;
+  saw = one.saw;
+  seen = one.seen;
+  count = one.count;
+  recorded = one.recorded;
+}
+
+pub all_stored_in : (rules : Rules) (old new : Place) (orders : List Order) (lists : List (List Told)) → 0 < length lists
+    → AreHandedIn rules old orders lists new → AreHandedIn rules old orders lists (all_stored new)
+all_stored_in rules old new orders [] some handed = absurd (omega (arith, some))
+all_stored_in rules old new [] (ts ∷ lists) some handed = absurd handed
+all_stored_in rules old new (o ∷ orders) (ts ∷ []) some handed = (
+  all_stored new,
+  ap (λ (p : Place). p.worker) handed.3 ∙ handed.1,
+  stored_in rules old new o ts (subst (λ (p : Place). IsHandedIn rules old o ts p) (sym handed.3) handed.2),
+  refl,
+)
+all_stored_in rules old new (o ∷ orders) (ts ∷ us ∷ lists) some handed = (
+  handed.0,
+  handed.1,
+  handed.2,
+  all_stored_in rules handed.0 new orders (us ∷ lists) (omega arith) handed.3,
+)
+
+-- with no list the place is as it was
+pub none_handed : (rules : Rules) (old new : Place) (orders : List Order) (lists : List (List Told)) → length lists ≡ 0
+    → AreHandedIn rules old orders lists new → new ≡ old
+none_handed rules old new orders [] none handed = handed
+none_handed rules old new orders (ts ∷ lists) none handed = absurd (omega (arith, none))

@@ -144,9 +144,9 @@ exactly lines (p ∷ places) most small =
     let rest = most_sum lines places others in
     All-cons (λ (q : Place). HasAllOf lines q) p places
     (record {
-      had = (here.begins).had;
+      had = here.had;
       answered = here.answered;
-      saw = (here.begins).saw;
+      saw = here.saw;
       count = omega (arith, here.count, small, counts, orders, rest);
     })
     (exactly lines places others (omega (arith, here.count, small, counts, orders)))

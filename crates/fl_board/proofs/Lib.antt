@@ -4,4 +4,5 @@ mod Counts
 mod Histories
 mod Refusing
 mod Batches
-mod Storing
+mod Prefixes
+mod Fronts

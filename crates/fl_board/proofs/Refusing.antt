@@ -1,5 +1,5 @@
 -- Why a board refuses.
-use Rattle.std.proofs.Common.{◌≡◌, ◌≢◌, ℕ, ◌<◌, List, ◌∷◌, All, length, take, sym, ap, ◌∙◌, arith}
+use Rattle.std.proofs.Common.{◌≡◌, ◌≢◌, ℕ, ◌<◌, true, false, List, ◌∷◌, All, length, take, sym, subst, ap, ◌∙◌, arith}
 use Rattle.std.proofs.Math.ListN.{get_or}
 use Rattle.std.proofs.lemmas.List.{get_or-take, get_or_default, length-take-le}
 use Rattle.std.proofs.lemmas.List.Elements.{All-head, All-tail}
@@ -29,6 +29,14 @@ short_of_first rules lines place others legal short = record {
   lines = lines;
   legal = legal;
   short = λ all. short (All-head (BeginsWith lines) place others all);
+}
+
+pub short_at : (rules : Rules) (lines : List Line) (places : List Place) (i : ℕ) (place : Place) → IsLegal rules lines
+    → i < length places → get_or places i place ≡ place → (BeginsWith lines place → false ≡ true) → FallsShort rules places
+short_at rules lines places i place legal lt is short = record {
+  lines = lines;
+  legal = legal;
+  short = λ all. cc (short (subst (BeginsWith lines) is (all i place lt)));
 }
 
 pub short_of_second : (rules : Rules) (lines : List Line) (first place : Place) (others : List Place) → IsLegal rules lines

@@ -34,11 +34,12 @@ AreHandedIn rules old (order ∷ orders) (tolds ∷ lists) new =
     (between : Place) × (between.worker ≡ old.worker) × IsHandedIn rules old order tolds between
     × AreHandedIn rules between orders lists new
 
--- it is the same worker's, who handed in the same
+-- it is the same worker's, who handed in the same, and as much is stored
 pub record KeepsHanded (old new : Place) : Type 0 where
   pub worker : new.worker ≡ old.worker
   pub count : new.count ≡ old.count
   pub own : new.own ≡ old.own
+  pub stored : new.stored ≡ old.stored
 
 -- A history that is legal under these rules was shown, which begins with all that the worker had handed in, each order
 -- with all its replies, and was shown before. The result is what the order is answered after it.

@@ -1,17 +1,17 @@
 //! The board: workers with seats hand in orders under one lock, and look without it. One history of all orders is kept.
 
 ghost use Rattle.std.specs.Prelude.{◌≡◌, ◌<◌, ◌≤◌, ◌+◌, ◌↔◌, ◌⊎◌, [], ◌∷◌, true, Err, List, All, IfOk, IfErr, IfSome};
-ghost use Rattle.std.specs.Prelude.{IsSome, IsTrue, OnOk, OnErr, length, map, sum_by};
+ghost use Rattle.std.specs.Prelude.{IsSome, OnOk, OnErr, false, length, map, sum_by};
 ghost use Rattle.std.specs.List.{range_with_len};
+ghost use mathlib.Core.List.{IsPrefix};
+ghost use Rattle.fl_board.specs.Inside.Recorded.{all_stored};
 ghost use Rattle.fl_board.specs.Refused.{CantClose, FallsShort};
 ghost use Rattle.fl_board.specs.Seats.{AreApart};
 ghost use Rattle.fl_board.specs.Shown.{AreHandedIn, HasAllOf, HaveMet, IsHandedIn, IsShown, KeepsHanded};
 ghost use Rattle.fl_core.specs.Tolds.{HasRoom};
 ghost use Rattle.fl_desk.specs.Legal.{IsLegal, LeavesLawful, orders_asked};
-ghost use Rattle.fl_desk.specs.Stored.{IsStored};
 ghost use Rattle.fl_order.specs.Order.{only_reads};
 
-use crate::asks::asks_lead;
 use crate::seat::Seat;
 use crate::shared::{Shared, are_apart};
 use fl_core::{Rules, Tolds};
@@ -55,7 +55,8 @@ pub enum CloseFault<L: BoardName, R: Wait + Drop, J: Journal = Lines> {
         /// The seats that were handed back.
         seats: Vec<Seat<L>>,
     },
-    /// The history doesn't begin with all that some worker handed in or was shown, or two seats are of one worker.
+    /// The history doesn't begin with all that some worker handed in or was shown, what counts as stored for it isn't,
+    /// or two seats are of one worker.
     NoView {
         /// The board.
         board: Board<L, R, J>,
@@ -119,7 +120,7 @@ impl<L: BoardName, R: Wait + Drop, J: Journal> Board<L, R, J> {
         requires rules { rules ≡ L.rules }
         ensures workers { IfOk result (λ made. map (λ seat. seat.worker) made.1.items ≡ range_with_len 0 workers) }
         ensures fresh { IfOk result (λ made.
-            All (λ seat. (seat.count ≡ 0) × (seat.own ≡ []) × (seat.seen ≡ [])) made.1.items) }
+            All (λ seat. (seat.count ≡ 0) × (seat.own ≡ []) × (seat.seen ≡ []) × (seat.stored ≡ [])) made.1.items) }
     {
         let (book, rest) = blank.open::<L>();
         let shared = Shared::over(alloc, rt, journal, book, log, workers as usize, rules)?;
@@ -138,9 +139,9 @@ impl<L: BoardName, R: Wait + Drop, J: Journal> Board<L, R, J> {
     }
 
     /// Takes an order of the seat's worker, as `Desk::take` does: records it, answers it, and hands out the replies
-    /// that it records. If lines must be stored before replies leave, it waits until its own are. A refusal changes no
-    /// line, lock, count or seat. `NoView` comes if the history doesn't begin with all that the worker handed in or was
-    /// shown, has 2^62 orders, or isn't all that was logged.
+    /// that it records. If lines must be stored before replies leave, it waits until its own are: they count as stored
+    /// at the seat. A refusal changes no line, lock, count or seat. `NoView` comes if the history doesn't begin with all
+    /// that the worker handed in or was shown, has 2^62 orders, or isn't all that was logged.
     pub fn hand_in<W: Wait>(
         &self,
         rt: &W,
@@ -151,7 +152,7 @@ impl<L: BoardName, R: Wait + Drop, J: Journal> Board<L, R, J> {
         requires { HasRoom L.rules tolds.old }
         ensures worker { seat.new.worker ≡ seat.old.worker }
         ensures handed { OnOk result (IsHandedIn L.rules seat.old order.now tolds.new.told seat.new) }
-        ensures stored { OnOk result (IsStored J.stored seat.new.own) }
+        ensures stored { OnOk result (seat.new.stored ≡ seat.new.own) }
         ensures room { tolds.new.room ≡ tolds.old.room }
         ensures refused { OnErr result ((seat.new ≡ seat.old) × (tolds.new ≡ tolds.old)) }
     {
@@ -168,11 +169,11 @@ impl<L: BoardName, R: Wait + Drop, J: Journal> Board<L, R, J> {
     }
 
     /// Takes orders of the seat's worker one after another under one lock, each as `hand_in` does, and then publishes
-    /// them together. If lines must be stored before replies leave, it waits until those of all that it took are.
-    /// Before that it sends what is outgoing. Until they are, others are refused. It hands out the replies to each in
-    /// `lists`, in the place of those before; `tolds` has room for those to one. It may end before it took all, when
-    /// there may be no room for the replies to one more or no place for their list. It takes one at least, or is
-    /// refused. What is refused is the first order that has no list.
+    /// them together. If lines must be stored before replies leave, it waits until those of all that it took are: they
+    /// count as stored at the seat. Before that it sends what is outgoing. Until they are, others are refused. It hands
+    /// out the replies to each in `lists`, in the place of those before; `tolds` has room for those to one. It may end
+    /// before it took all, when there may be no room for the replies to one more or no place for their list. It takes
+    /// one at least, or is refused. What is refused is the first order that has no list.
     pub fn hand_in_all<W: Wait, O: Outgoing>(
         &self,
         rt: &W,
@@ -187,7 +188,7 @@ impl<L: BoardName, R: Wait + Drop, J: Journal> Board<L, R, J> {
         ensures room { tolds.new.room ≡ tolds.old.room }
         ensures lists { (lists.new.room ≡ lists.old.room) × (lists.new.places ≡ lists.old.places) }
         ensures handed { AreHandedIn L.rules seat.old orders.now lists.new.lists seat.new }
-        ensures stored { 0 < length lists.new.lists → IsStored J.stored seat.new.own }
+        ensures stored { 0 < length lists.new.lists → seat.new.stored ≡ seat.new.own }
         ensures some { OnOk result (0 < length orders.now → 0 < length lists.new.lists) }
         ensures refused { OnErr result (length lists.new.lists < length orders.now) }
     {
@@ -205,8 +206,8 @@ impl<L: BoardName, R: Wait + Drop, J: Journal> Board<L, R, J> {
     }
 
     // Waits until all that was handed in through a seat is stored, or need not be. Until it is, others are refused.
-    fn wait_until_stored<W: Wait>(&self, rt: &W, seat: &Seat<L>)
-        ensures { IsStored J.stored seat.now.own }
+    fn wait_until_stored<W: Wait>(&self, rt: &W, seat: &mut Seat<L>)
+        ensures { seat.new ≡ all_stored seat.old }
     {
         for _ in rt.forever() {
             pause(rt);
@@ -218,8 +219,9 @@ impl<L: BoardName, R: Wait + Drop, J: Journal> Board<L, R, J> {
     }
 
     // Tries again to store lines, and says whether all that was handed in through a seat is stored, or need not be.
-    fn is_stored<W: Wait>(&self, rt: &W, seat: &Seat<L>) -> bool
-        ensures { IsTrue result → IsStored J.stored seat.now.own }
+    fn is_stored<W: Wait>(&self, rt: &W, seat: &mut Seat<L>) -> bool
+        ensures noted { result ≡ true → seat.new ≡ all_stored seat.old }
+        ensures waits { result ≡ false → seat.new ≡ seat.old }
     {
         let mut shared = self.shared.lock(rt);
         shared.store_if_due(seat)
@@ -255,12 +257,13 @@ impl<L: BoardName, R: Wait + Drop, J: Journal> Board<L, R, J> {
     /// Stores all its lines: a worker has no order at hand. No line, lock, count or seat changes.
     pub fn pause<W: Wait>(&self, rt: &W) {
         let mut shared = self.shared.lock(rt);
-        let _ = shared.record.desk.store_all();
+        shared.store_all();
     }
 
     /// The journal of its lines, which are the history of all that was handed in, if no seat is missing. It is
     /// legal under the board's rules, and no two owners have conflicting locks after it. It begins with all that was
-    /// handed in and shown through each seat, and has as many orders of each worker as its seat's count.
+    /// handed in and shown through each seat, and has as many orders of each worker as its seat's count. The journal
+    /// has stored what counts as stored at each seat.
     pub fn into_journal(self, seats: Vec<Seat<L>>) -> Result<J, CloseFault<L, R, J>>
         requires { L.workers ≡ L.parts }
         ensures legal { IfOk result (λ journal. IsLegal L.rules (J.lines journal)) }
@@ -268,6 +271,7 @@ impl<L: BoardName, R: Wait + Drop, J: Journal> Board<L, R, J> {
         ensures counted { IfOk result (λ journal.
             orders_asked (J.lines journal) ≡ sum_by (λ seat. seat.count) seats.items) }
         ensures each { IfOk result (λ journal. All (λ seat. HasAllOf (J.lines journal) seat) seats.items) }
+        ensures stored { IfOk result (λ journal. All (λ seat. IsPrefix seat.stored (J.stored journal)) seats.items) }
         ensures apart { IfOk result (λ _. AreApart seats.items) }
         ensures not_all { (result ≡ Err (CloseFault.NotAll self seats)) ↔ (length seats.items < L.workers) }
         ensures back { IfErr result (λ fault. (fault ≡ CloseFault.NotAll self seats)
@@ -278,7 +282,6 @@ impl<L: BoardName, R: Wait + Drop, J: Journal> Board<L, R, J> {
         }
         let Board { shared, workers } = self;
         let shared = shared.into_inner();
-        asks_lead();
         if !shared.begins_with(&seats) || !are_apart(&seats) {
             let board = Board {
                 shared: Mutex::new(shared),
@@ -311,20 +314,21 @@ impl<L: BoardName, R: Wait + Drop> Board<L, R> {
         requires rules { rules ≡ L.rules }
         ensures workers { IfOk result (λ made. map (λ seat. seat.worker) made.1.items ≡ range_with_len 0 workers) }
         ensures fresh { IfOk result (λ made.
-            All (λ seat. (seat.count ≡ 0) × (seat.own ≡ []) × (seat.seen ≡ [])) made.1.items) }
+            All (λ seat. (seat.count ≡ 0) × (seat.own ≡ []) × (seat.seen ≡ []) × (seat.stored ≡ [])) made.1.items) }
     {
         Board::over(alloc, rt, Lines::new(alloc), blank, log, workers, rules)
     }
 
     /// The history of all that was handed in, if no seat is missing. It is legal under the board's rules, and no two
     /// owners have conflicting locks after it. It begins with all that was handed in and shown through each seat, and
-    /// has as many orders of each worker as its seat's count.
+    /// with what counts as stored there. It has as many orders of each worker as its seat's count.
     pub fn close(self, seats: Vec<Seat<L>>) -> Result<History, CloseFault<L, R>>
         requires { L.workers ≡ L.parts }
         ensures legal { IfOk result (IsLegal L.rules) }
         ensures lawful { IfOk result (LeavesLawful L.rules) }
         ensures counted { IfOk result (λ history. orders_asked history ≡ sum_by (λ seat. seat.count) seats.items) }
         ensures each { IfOk result (λ history. All (λ seat. HasAllOf history seat) seats.items) }
+        ensures stored { IfOk result (λ history. All (λ seat. IsPrefix seat.stored history) seats.items) }
         ensures apart { IfOk result (λ _. AreApart seats.items) }
         ensures not_all { (result ≡ Err (CloseFault.NotAll self seats)) ↔ (length seats.items < L.workers) }
         ensures back { IfErr result (λ fault. (fault ≡ CloseFault.NotAll self seats)
@@ -354,7 +358,7 @@ fn seats_of<L: BoardName, R: Wait + Drop>(
     requires parts { (parts.parts ≡ workers) × (parts.amount ≡ 0) }
     ensures workers { IfOk result (λ seats. map (λ seat. seat.worker) seats.items ≡ range_with_len 0 workers) }
     ensures fresh { IfOk result (λ seats.
-        All (λ seat. (seat.count ≡ 0) × (seat.own ≡ []) × (seat.seen ≡ [])) seats.items) }
+        All (λ seat. (seat.count ≡ 0) × (seat.own ≡ []) × (seat.seen ≡ []) × (seat.stored ≡ [])) seats.items) }
 {
     let mut rest = parts;
     let mut seats = Vec::with_capacity(alloc, workers as usize)?;
@@ -369,6 +373,7 @@ fn seats_of<L: BoardName, R: Wait + Drop>(
             reader,
             own: none.again(),
             seen: none.again(),
+            stored: none.again(),
         });
     }
     Ok(seats)

@@ -1,6 +1,7 @@
 //! A board is a counter.
 
 ghost use Rattle.std.specs.Prelude.{◌+◌};
+ghost use Rattle.fl_board.specs.Seats.{front_of};
 ghost use Rattle.fl_desk.specs.Answered.{IsAnsweredAfter, answered_by};
 
 use crate::board::Board;
@@ -21,7 +22,9 @@ impl<L: BoardName, P: Wait + Drop, J: Journal> Counter for Board<L, P, J> {
 
     ghost answered = { λ seat. answered_by seat.worker seat.own };
 
-    ghost seen = { λ seat. seat.seen };
+    ghost front = { λ seat. front_of seat };
+
+    ghost stored = { λ seat. seat.stored };
 
     ghost shows = { λ lines order result. IsAnsweredAfter L.rules lines order result };
 

@@ -14,10 +14,11 @@
 //! - a `hand_in_all` that always ends behind its first order, is refused where it may end, or takes the lock or
 //!   publishes for each order;
 //! - one that waits for its lines, or sends what is outgoing, under the lock, or waits while something is outgoing;
+//! - one that counts its lines as stored before they are: then `into_journal` says `NoView`, if they aren't by then;
 //! - a `hand_in` or `hand_in_all` that ends publication as if memory had run out: then every later look is `NoView`.
-//! `fl_book_tests` refuses these, the last by `a_seat_without_the_right_to_wait_is_shown_each_order`; how one waits
-//! for its lines is seen by `tests/serve/traces.py` alone. Nothing sees a `hand_in_all` that stores its lines only once it
-//! has let the lock go, so that others may take orders in between.
+//! `fl_book_tests` refuses these, the last by `a_seat_without_the_right_to_wait_is_shown_each_order`; that one waits
+//! for its lines, and how, is seen by `tests/serve/traces.py` alone. Nothing sees a `hand_in_all` that stores its lines
+//! only once it has let the lock go, so that others may take orders in between.
 #![tactic(auto)]
 
 mod asks;

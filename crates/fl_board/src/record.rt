@@ -1,7 +1,8 @@
 //! What is recorded under a board's lock.
 
 ghost use Rattle.std.specs.Prelude.{◌≡◌, ◌<◌, ◌≤◌, ◌^◌, ◌+◌, ◌++◌, ◌∷◌, [], Err, Some, length};
-ghost use Rattle.std.specs.Prelude.{IfOk, IfSome, OnOk, OnErr, MatchResult, List};
+ghost use Rattle.std.specs.Prelude.{IfOk, IfSome, OnOk, OnErr, IsTrue, MatchResult, List};
+ghost use mathlib.Core.List.{IsPrefix};
 ghost use Rattle.fl_board.specs.Inside.Asks.{history_of};
 ghost use Rattle.fl_board.specs.Shown.{AreHandedIn, IsHandedIn};
 ghost use Rattle.fl_core.specs.Tolds.{HasRoom};
@@ -25,8 +26,8 @@ use std::sync::Wait;
 use std::sync::ledger::{Book, Share};
 
 /// One desk; the ledger's book, whose total is the number of orders in the desk's history; the log of what was handed
-/// in, and all of it; and the writer that publishes it. Contracts see the asks that were handed in, and those that are
-/// published.
+/// in, and all of it; and the writer that publishes it. Contracts see the asks that were handed in, those that are
+/// published, and the lines that the desk's journal has stored.
 #[derive(Drop)]
 pub(crate) struct Record<L: BoardName, R: Wait + Drop, J: Journal> {
     pub desk: Desk<J>,
@@ -40,11 +41,12 @@ impl<L: BoardName, R: Wait + Drop, J: Journal> Model for Record<L, R, J> {
     ghost use Rattle.std.specs.Prelude.{◌≡◌};
     ghost use Rattle.fl_board.specs.Inside.Asks.{history_of};
     ghost use Rattle.fl_desk.specs.Legal.{orders_asked};
-    ghost use Rattle.fl_log.specs.Asks.{Publication, present_after};
+    ghost use Rattle.fl_board.specs.Inside.Recorded.{Recorded};
+    ghost use Rattle.fl_log.specs.Asks.{present_after};
 
-    ghost Value = { Publication };
+    ghost Value = { Recorded };
 
-    ghost view = { λ s. record { asks = s.all; shown = s.writer.shown } };
+    ghost view = { λ s. record { asks = s.all; shown = s.writer.shown; stored = s.desk.stored } };
 
     ghost invariant = { λ s. (s.writer.asks ≡ s.all) × (s.desk.lines ≡ history_of L.rules s.all)
         × (s.desk.present ≡ present_after L.rules s.all) × (s.book.total ≡ orders_asked s.desk.lines) };
@@ -68,7 +70,7 @@ impl<L: BoardName, R: Wait + Drop, J: Journal> Record<L, R, J> {
         requires log { log ≡ L.log }
         requires readers { (0 < readers) × (readers < 2 ^ 32) }
         requires rules { rules ≡ L.rules }
-        ensures { IfOk result (λ made. made ≡ record { asks = []; shown = Some [] }) }
+        ensures { IfOk result (λ made. made ≡ record { asks = []; shown = Some []; stored = J.stored journal }) }
     {
         let (log, all) = log.named::<L>();
         let writer = ReplicaWriter::new(alloc, rt, &all, readers, MOST_IN_BATCH, rules)?;
@@ -102,7 +104,9 @@ impl<L: BoardName, R: Wait + Drop, J: Journal> Record<L, R, J> {
         ensures few { OnOk result (length tolds.new.told ≤ L.rules.parked + 1) }
         ensures room { tolds.new.room ≡ tolds.old.room }
         ensures all { OnOk result (history_of L.rules self.new.asks ≡ seat.new.own) }
-        ensures refused { OnErr result ((seat.new ≡ seat.old) × (tolds.new ≡ tolds.old) × (self.new ≡ self.old)) }
+        ensures stored { IsPrefix self.old.stored self.new.stored }
+        ensures refused { OnErr result ((seat.new ≡ seat.old) × (tolds.new ≡ tolds.old)
+            × (self.new.asks ≡ self.old.asks) × (self.new.shown ≡ self.old.shown)) }
     {
         let Record {
             desk,
@@ -145,6 +149,7 @@ impl<L: BoardName, R: Wait + Drop, J: Journal> Record<L, R, J> {
         ensures room { tolds.new.room ≡ tolds.old.room }
         ensures lists { (lists.new.room ≡ lists.old.room) × (lists.new.places ≡ lists.old.places) }
         ensures handed { AreHandedIn L.rules seat.old orders.now lists.new.lists seat.new }
+        ensures stored { IsPrefix self.old.stored self.new.stored }
         ensures some { OnOk result (0 < length orders.now → 0 < length lists.new.lists) }
         ensures refused { OnErr result (length lists.new.lists < length orders.now) }
     {
@@ -166,14 +171,34 @@ impl<L: BoardName, R: Wait + Drop, J: Journal> Record<L, R, J> {
     pub(crate) fn publish(&mut self)
         ensures asks { self.new.asks ≡ self.old.asks }
         ensures shown { IfSome self.new.shown (λ shown. shown ≡ self.new.asks) }
+        ensures stored { self.new.stored ≡ self.old.stored }
     {
         self.writer.publish();
+    }
+
+    /// Stores the desk's lines if they must be stored before replies leave, and says whether all are stored, or need
+    /// not be.
+    pub(crate) fn store_if_due(&mut self) -> bool
+        ensures same { (self.new.asks ≡ self.old.asks) × (self.new.shown ≡ self.old.shown) }
+        ensures stored { IsPrefix self.old.stored self.new.stored }
+        ensures all { IsTrue result → self.new.stored ≡ history_of L.rules self.new.asks }
+    {
+        self.desk.store_if_due()
+    }
+
+    /// Stores the desk's lines, if it can.
+    pub(crate) fn store_all(&mut self)
+        ensures same { (self.new.asks ≡ self.old.asks) × (self.new.shown ≡ self.old.shown) }
+        ensures stored { IsPrefix self.old.stored self.new.stored }
+    {
+        let _ = self.desk.store_all();
     }
 
     /// The desk's journal, for the whole of the ledger.
     pub(crate) fn into_journal(self, whole: &mut Share<L>) -> J
         requires { whole.old.parts ≡ L.parts }
         ensures lines { J.lines result ≡ history_of L.rules self.asks }
+        ensures stored { J.stored result ≡ self.stored }
         ensures legal { IsLegal L.rules (J.lines result) }
         ensures lawful { LeavesLawful L.rules (J.lines result) }
         ensures counted { orders_asked (J.lines result) ≡ whole.old.amount }

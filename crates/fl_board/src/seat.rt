@@ -1,8 +1,9 @@
 //! A worker's place at a board.
 
-ghost use Rattle.std.specs.Prelude.{◌≡◌, ◌↔◌, true, IfOk, OnErr};
+ghost use Rattle.std.specs.Prelude.{◌≡◌, ◌↔◌, true, false, IfOk, OnErr};
 ghost use mathlib.Core.List.{IsPrefix};
 ghost use Rattle.fl_board.specs.Inside.Asks.{HasMostOf, history_of};
+ghost use Rattle.fl_board.specs.Inside.Recorded.{all_stored};
 ghost use Rattle.fl_board.specs.Refused.{BeginsWith};
 ghost use Rattle.fl_board.specs.Shown.{IsShown, KeepsHanded};
 ghost use Rattle.fl_order.specs.Order.{only_reads};
@@ -16,13 +17,15 @@ use std::marker::Model;
 use std::sync::ledger::Share;
 
 /// A worker's place at a board. Contracts see it as its worker, how many orders were handed in through it, the
-/// history up to the last of these, and the longest history that was shown through it.
+/// history up to the last of these, the longest history that was shown through it, and a beginning of the history
+/// whose lines are stored, or need not be before replies leave.
 pub struct Seat<L: BoardName> {
     pub(crate) worker: u32,
     pub(crate) share: Share<L>,
     pub(crate) reader: ReadHandle<Replica<L>>,
     pub(crate) own: Beginning<L, Ask>,
     pub(crate) seen: Beginning<L, Ask>,
+    pub(crate) stored: Beginning<L, Ask>,
 }
 
 impl<L: BoardName> Model for Seat<L> {
@@ -38,6 +41,7 @@ impl<L: BoardName> Model for Seat<L> {
       count = s.share.amount;
       own = history_of L.rules s.own;
       seen = history_of L.rules s.seen;
+      stored = history_of L.rules s.stored;
     } };
 
     ghost invariant = { λ s. (s.share.parts ≡ 1)
@@ -53,6 +57,7 @@ impl<L: BoardName> Drop for Seat<L> {
             reader: _reader,
             own: _own,
             seen: _seen,
+            stored: _stored,
         } = self;
     }
 }
@@ -76,6 +81,7 @@ impl<L: BoardName> Seat<L> {
             reader: _reader,
             own: _own,
             seen: _seen,
+            stored: _stored,
         } = self;
         share
     }
@@ -99,17 +105,31 @@ impl<L: BoardName> Seat<L> {
         Ok(answer)
     }
 
-    // Whether a history begins with all that was handed in through it.
-    pub(crate) fn is_in(&self, asks: &Beginning<L, Ask>) -> bool
-        ensures { (result ≡ true) ↔ IsPrefix self.now.own (history_of L.rules asks.now) }
+    // Of a history whose lines are stored: whether it begins with all that was handed in through the seat. If so, this
+    // counts as stored.
+    pub(crate) fn note_stored(&mut self, stored: &Beginning<L, Ask>) -> bool
+        ensures noted { result ≡ true → self.new ≡ all_stored self.old }
+        ensures there { result ≡ true → IsPrefix self.old.own (history_of L.rules stored.now) }
+        ensures waits { result ≡ false → self.new ≡ self.old }
     {
-        self.own.begins(asks)
+        if !self.own.begins(stored) {
+            return false;
+        }
+        self.stored = self.own.again();
+        true
+    }
+
+    // Whether what counts as stored for it begins a history whose lines are stored.
+    pub(crate) fn is_stored_in(&self, stored: &Beginning<L, Ask>) -> bool
+        ensures { (result ≡ true) ↔ IsPrefix self.now.stored (history_of L.rules stored.now) }
+    {
+        self.stored.begins(stored)
     }
 
     // Whether a history begins with all that was handed in and shown through it.
     pub(crate) fn begins(&self, asks: &Beginning<L, Ask>) -> bool
-        ensures begins { (result ≡ true) ↔ BeginsWith (history_of L.rules asks.now) self.now }
         ensures most { result ≡ true → HasMostOf (history_of L.rules asks.now) self.now }
+        ensures short { BeginsWith (history_of L.rules asks.now) self.now → result ≡ true }
     {
         self.own.begins(asks) && self.seen.begins(asks)
     }

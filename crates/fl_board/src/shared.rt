@@ -1,14 +1,15 @@
 //! What lies under a board's lock.
 
 ghost use Rattle.std.specs.Prelude.{◌≡◌, ◌≢◌, ◌↔◌, ◌≤◌, ◌<◌, ◌^◌, ◌+◌, ◌∷◌, [], true, false, All, length};
-ghost use Rattle.std.specs.Prelude.{IfOk, OnOk, OnErr, IsTrue};
+ghost use Rattle.std.specs.Prelude.{IfOk, OnOk, OnErr};
+ghost use mathlib.Core.List.{IsPrefix};
 ghost use Rattle.fl_board.specs.Inside.Asks.{HasMostOf, history_of};
-ghost use Rattle.fl_board.specs.Refused.{BeginsWith, FallsShort};
+ghost use Rattle.fl_board.specs.Inside.Recorded.{all_stored};
+ghost use Rattle.fl_board.specs.Refused.{FallsShort};
 ghost use Rattle.fl_board.specs.Seats.{AreApart};
 ghost use Rattle.fl_board.specs.Shown.{AreHandedIn, HaveMet, IsHandedIn, KeepsHanded};
 ghost use Rattle.fl_core.specs.Tolds.{HasRoom};
 ghost use Rattle.fl_desk.specs.Legal.{IsLegal, LeavesLawful, orders_asked};
-ghost use Rattle.fl_desk.specs.Stored.{IsStored};
 
 use crate::asks::asks_lead;
 use crate::record::Record;
@@ -23,7 +24,8 @@ use std::marker::Model;
 use std::sync::Wait;
 use std::sync::ledger::{Book, Share};
 
-/// The record, of which all that was handed in is published. Contracts see the asks that were handed in.
+/// The record, of which all that was handed in is published. Contracts see the asks that were handed in, and a
+/// beginning of them whose lines the journal has stored.
 #[derive(Drop)]
 pub(crate) struct Shared<L: BoardName, R: Wait + Drop, J: Journal> {
     pub record: Record<L, R, J>,
@@ -32,17 +34,17 @@ pub(crate) struct Shared<L: BoardName, R: Wait + Drop, J: Journal> {
 }
 
 impl<L: BoardName, R: Wait + Drop, J: Journal> Model for Shared<L, R, J> {
-    ghost use Rattle.std.specs.Prelude.{◌≡◌, IfSome, List};
+    ghost use Rattle.std.specs.Prelude.{◌≡◌, IfSome};
+    ghost use mathlib.Core.List.{IsPrefix};
     ghost use Rattle.fl_board.specs.Inside.Asks.{history_of};
-    ghost use Rattle.fl_desk.specs.Stored.{IsStored};
-    ghost use Rattle.fl_log.specs.declared.ask.Ask.{Ask};
+    ghost use Rattle.fl_board.specs.Inside.Recorded.{UnderLock};
 
-    ghost Value = { List Ask };
+    ghost Value = { UnderLock };
 
-    ghost view = { λ s. s.record.asks };
+    ghost view = { λ s. record { asks = s.record.asks; stored = s.stored } };
 
     ghost invariant = { λ s. IfSome s.record.shown (λ shown. shown ≡ s.record.asks)
-        × IsStored J.stored (history_of L.rules s.stored) };
+        × IsPrefix (history_of L.rules s.stored) s.record.stored };
 }
 
 impl<L: BoardName, R: Wait + Drop, J: Journal> Shared<L, R, J> {
@@ -64,7 +66,7 @@ impl<L: BoardName, R: Wait + Drop, J: Journal> Shared<L, R, J> {
         requires log { log ≡ L.log }
         requires readers { (0 < readers) × (readers < 2 ^ 32) }
         requires rules { rules ≡ L.rules }
-        ensures { IfOk result (λ shared. shared ≡ []) }
+        ensures { IfOk result (λ shared. shared ≡ record { asks = []; stored = [] }) }
     {
         let record = Record::over(alloc, rt, journal, ledger, log, readers, rules)?;
         let stored = record.all.again();
@@ -83,8 +85,9 @@ impl<L: BoardName, R: Wait + Drop, J: Journal> Shared<L, R, J> {
         ensures worker { seat.new.worker ≡ seat.old.worker }
         ensures handed { OnOk result (IsHandedIn L.rules seat.old order.now tolds.new.told seat.new) }
         ensures room { tolds.new.room ≡ tolds.old.room }
-        ensures all { OnOk result (history_of L.rules self.new ≡ seat.new.own) }
-        ensures refused { OnErr result ((seat.new ≡ seat.old) × (tolds.new ≡ tolds.old) × (self.new ≡ self.old)) }
+        ensures all { OnOk result (history_of L.rules self.new.asks ≡ seat.new.own) }
+        ensures refused { OnErr result ((seat.new ≡ seat.old) × (tolds.new ≡ tolds.old)
+            × (self.new.asks ≡ self.old.asks)) }
     {
         if !self.store_waiting() {
             return Err(HandFault::NoMemory);
@@ -137,13 +140,17 @@ impl<L: BoardName, R: Wait + Drop, J: Journal> Shared<L, R, J> {
         Ok(())
     }
 
-    /// Whether the history begins with all that was handed in and shown through each seat.
+    /// Whether the history begins with all that was handed in and shown through each seat, and with what counts as
+    /// stored for it, which the journal has to have stored.
     pub(crate) fn begins_with(&self, seats: &[Seat<L>]) -> bool
-        ensures begins { (result ≡ true) ↔ All (BeginsWith (history_of L.rules self.now)) seats.now }
-        ensures most { result ≡ true → All (λ seat. HasMostOf (history_of L.rules self.now) seat) seats.now }
+        ensures most { result ≡ true → All (λ seat. HasMostOf (history_of L.rules self.now.asks) seat) seats.now }
+        ensures stored { result ≡ true
+            → All (λ seat. IsPrefix seat.stored (history_of L.rules self.now.stored)) seats.now }
+        ensures short { result ≡ false → FallsShort L.rules seats.now }
     {
+        asks_lead();
         for seat in seats {
-            if !seat.begins(&self.record.all) {
+            if !seat.begins(&self.record.all) || !seat.is_stored_in(&self.stored) {
                 return false;
             }
         }
@@ -151,31 +158,43 @@ impl<L: BoardName, R: Wait + Drop, J: Journal> Shared<L, R, J> {
     }
 
     /// Stores the desk's lines if they must be stored before replies leave, and says whether all that was handed in
-    /// through a seat is stored.
-    #[tactic(auto, using(crate::proofs::Storing::front_stored))]
-    pub(crate) fn store_if_due(&mut self, seat: &Seat<L>) -> bool
-        ensures same { self.new ≡ self.old }
-        ensures stored { IsTrue result → IsStored J.stored seat.now.own }
+    /// through a seat is stored. If so, it counts as that.
+    pub(crate) fn store_if_due(&mut self, seat: &mut Seat<L>) -> bool
+        ensures same { self.new.asks ≡ self.old.asks }
+        ensures noted { result ≡ true → seat.new ≡ all_stored seat.old }
+        ensures there { result ≡ true → IsPrefix seat.old.own (history_of L.rules self.new.stored) }
+        ensures waits { result ≡ false → seat.new ≡ seat.old }
     {
         let _ = self.store_waiting();
-        seat.is_in(&self.stored)
+        seat.note_stored(&self.stored)
+    }
+
+    /// Stores the desk's lines, if it can.
+    pub(crate) fn store_all(&mut self)
+        ensures { self.new ≡ self.old }
+    {
+        self.record.store_all();
     }
 
     // Stores the desk's lines, if some wait that must be stored before replies leave. It says whether none is left.
-    #[tactic(auto, using(crate::proofs::Storing::same_stored))]
     fn store_waiting(&mut self) -> bool
-        ensures { self.new ≡ self.old }
+        ensures { self.new.asks ≡ self.old.asks }
     {
-        if !self.stored.is(&self.record.all) && self.record.desk.store_if_due() {
-            self.stored = self.record.all.again();
+        if self.stored.is(&self.record.all) {
+            return true;
         }
-        self.stored.is(&self.record.all)
+        if !self.record.store_if_due() {
+            return false;
+        }
+        self.stored = self.record.all.again();
+        true
     }
 
     /// The desk's journal, for the whole of the ledger.
     pub(crate) fn into_journal(self, whole: &mut Share<L>) -> J
         requires { whole.old.parts ≡ L.parts }
-        ensures lines { J.lines result ≡ history_of L.rules self }
+        ensures lines { J.lines result ≡ history_of L.rules self.asks }
+        ensures stored { IsPrefix (history_of L.rules self.stored) (J.stored result) }
         ensures legal { IsLegal L.rules (J.lines result) }
         ensures lawful { LeavesLawful L.rules (J.lines result) }
         ensures counted { orders_asked (J.lines result) ≡ whole.old.amount }

@@ -6,5 +6,4 @@ pub mod Leading
 pub mod Legal
 pub mod Lists
 pub mod Replay
-pub mod Stored
 pub mod Verdicts

@@ -8,7 +8,6 @@ ghost use Rattle.fl_core.specs.Step.{next, replies_in};
 ghost use Rattle.fl_core.specs.Tolds.{HasRoom};
 ghost use Rattle.fl_desk.specs.Legal.{IsLegal, LeavesLawful, step_lines};
 ghost use Rattle.fl_desk.specs.Kept.{IsKept, opening_book};
-ghost use Rattle.fl_desk.specs.Stored.{IsStored};
 ghost use Rattle.fl_waiting.specs.Waiting.{is_parked};
 
 use fl_core::{Core, Rules, Tolds};
@@ -142,7 +141,6 @@ impl<J: Journal> Desk<J> {
         ensures present { self.new.present ≡ self.old.present }
         ensures stored { IsPrefix self.old.stored self.new.stored }
         ensures all { IsTrue result → self.new.stored ≡ self.new.lines }
-        ensures there { IsTrue result → IsStored J.stored self.new.lines }
     {
         self.journal.store_if_due()
     }

@@ -1,7 +1,6 @@
 -- The result of asks, one after another.
 use Rattle.std.specs.Prelude.{◌≤◌, List, [], ◌∷◌, ◌++◌, length}
 use mathlib.Core.List.{IsPrefix}
-use Rattle.fl_board.specs.Refused.{BeginsWith}
 use Rattle.fl_board.specs.Seats.{Place}
 use Rattle.fl_core.specs.State.{Snapshot, opening, snapshot_of}
 use Rattle.fl_core.specs.Step.{replies}
@@ -27,6 +26,7 @@ history_of rules asks = lines_from (snapshot_of (opening rules)) asks
 -- the lines begin with all that the worker handed in, each order with all its replies, and was shown; and have as many
 -- orders of it at least
 pub record HasMostOf (lines : List Line) (place : Place) : Type 0 where
-  pub begins : BeginsWith lines place
+  pub had : IsPrefix place.own lines
   pub answered : IsPrefix (answered_by place.worker place.own) (answered_by place.worker lines)
+  pub saw : IsPrefix place.seen lines
   pub count : place.count ≤ length (answered_by place.worker lines)

@@ -1,8 +1,9 @@
-use Rattle.std.proofs.Common.{rules, ◌≡◌, [], ap, ◌∙◌, refl, sym, subst, map, All, arith}
+use Rattle.std.proofs.Common.{rules, ◌≡◌, List, [], ap, ◌∙◌, refl, sym, subst, map, All, arith}
 use Rattle.std.proofs.lemmas.List.Elements.{All-push}
 use Rattle.std.specs.List.{range_with_len}
 use Rattle.fl_board.proofs.Boards.{seat_added}
 use Rattle.fl_board.specs.Inside.Asks.{history_of}
+use Rattle.fl_board.specs.Seats.{Place}
 use Rattle.fl_board.proofs.board.seats_of.Goals as goal
 
 pub loop-worker-preserved : goal.loop-worker-preserved
@@ -13,9 +14,14 @@ loop-worker-preserved g c =
       search rules,
       search rules,
       ap (map (λ seat. seat.worker)) c.push_reserved.ensures.items ∙ seat_added (λ seat. seat.worker) _ _ _ inv.4 refl,
-      subst (All (λ seat. (seat.count ≡ 0) × (seat.own ≡ []) × (seat.seen ≡ []))) (sym c.push_reserved.ensures.items)
-          (All-push (λ seat. (seat.count ≡ 0) × (seat.own ≡ []) × (seat.seen ≡ [])) _ _ inv.5
-          (c.split_off-share.ensures.amount, ap (history_of g.L.BoardName.rules) (c.again.ensures ∙ c.requires.none), ap (history_of g.L.BoardName.rules) (c.again-in-loop-worker.ensures ∙ c.requires.none))),
+      subst (All (λ seat. (seat.count ≡ 0) × (seat.own ≡ []) × (seat.seen ≡ []) × (seat.stored ≡ [])))
+          (sym {A = List Place} c.push_reserved.ensures.items)
+          (All-push (λ seat. (seat.count ≡ 0) × (seat.own ≡ []) × (seat.seen ≡ []) × (seat.stored ≡ [])) _ _ inv.5 (
+            c.split_off-share.ensures.amount,
+            ap (history_of g.L.BoardName.rules) (c.again.ensures ∙ c.requires.none),
+            ap (history_of g.L.BoardName.rules) (c.again-in-loop-worker.ensures ∙ c.requires.none),
+            ap (history_of g.L.BoardName.rules) (c.again-in-loop-worker-2.ensures ∙ c.requires.none),
+          )),
     )
 
 pub returns-clause-workers : goal.returns-clause-workers

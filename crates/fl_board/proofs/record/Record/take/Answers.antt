@@ -15,6 +15,7 @@ use Rattle.fl_board.specs.Seats.{Place}
 use Rattle.fl_board.proofs.Boards.{step_asks_one_order}
 use Rattle.fl_board.proofs.Counts.{one_more_by, orders_by}
 use Rattle.fl_board.proofs.Histories.{history_more, present_more}
+use Rattle.fl_board.proofs.Prefixes.{of_another}
 use Rattle.fl_board.proofs.record.Record.take.Goals as goal
 
 -- what was told alone by these replies was told alone by the same
@@ -75,6 +76,11 @@ invariant_of-seat g c =
     ∙ one_more_by worker (history_of ours was) order (replies (present_after ours was) order) in
     (c.add.ensures.parts ∙ c.seat.invariant.0, omega (arith, c.add.ensures.amount, most.count, more))
 
+pub returns-clause-stored : goal.returns-clause-stored
+returns-clause-stored g c =
+    rw (← c.self.view_is)
+    (of_another c.self.inside.desk.stored c.ready.new.self.stored c.take.new.self.stored c.ready.ensures.stored c.take.ensures.stored)
+
 pub returns-clause-handed : goal.returns-clause-handed
 returns-clause-handed g c =
     let ours = g.L.BoardName.rules in
@@ -94,9 +100,9 @@ returns-clause-handed g c =
       own = ap (history_of ours) own ∙ history_more ours was ask
           ∙ ap (λ t. history_of ours was ++ step_lines worker order t) (sym answered);
       legal = leads.legal ours c.again.result;
-      had = (most.begins).had;
+      had = most.had;
       answered = most.answered;
-      saw = (most.begins).saw;
+      saw = most.saw;
       seen = refl;
       count = c.add.ensures.amount;
       recorded = (invariant_of-seat g c).1;

@@ -1,7 +1,22 @@
-use Rattle.std.proofs.Common.{rules, ◌≡◌, ◌<◌, ◌+◌, ◌++◌, ◌∷◌, [], length, length-append, ap, ◌∙◌, arith}
+use Rattle.std.proofs.Common.{rules, ◌≡◌, ◌<◌, ◌++◌, ◌∷◌, [], length, length-append, ap, refl, ◌∙◌, arith}
 use Rattle.std.proofs.Math.ListN.{get_or}
 use Rattle.fl_board.proofs.Batches.{handed_more}
+use Rattle.fl_board.proofs.Prefixes.{of_another, of_itself}
 use Rattle.fl_board.proofs.record.Record.take_all.Goals as goal
+
+pub loop-order-init : goal.loop-order-init
+loop-order-init g c = record {
+  handed = search rules;
+  stored = of_itself c.args.self.now.stored c.args.self.now.stored refl;
+  count = search rules;
+  room = search rules;
+  lists = search rules;
+  first = search rules;
+}
+
+pub returns-in-Err-clause-stored : goal.returns-in-Err-clause-stored
+returns-in-Err-clause-stored g c =
+    of_another c.args.self.now.stored c.loop-order.self.stored c.take.new.self.stored c.loop-order.invariant.stored c.take.ensures.stored
 
 pub loop-order-preserved : goal.loop-order-preserved
 loop-order-preserved g c =
@@ -19,6 +34,7 @@ loop-order-preserved g c =
       handed = rw lists (handed_more g.L.BoardName.rules c.args.seat.now c.loop-order.seat c.take.new.seat orders before order
           told less (ap (λ n. get_or orders n order) so_far.count ∙ here) c.take.ensures.worker c.in_default.ensures.handed
           so_far.handed);
+      stored = of_another c.args.self.now.stored c.loop-order.self.stored c.take.new.self.stored so_far.stored c.take.ensures.stored;
       count = omega (arith, ap length lists, length-append before (told ∷ []), so_far.count);
       room = c.take.ensures.room ∙ so_far.room;
       lists = (c.push.ensures.room.0 ∙ so_far.lists.0, c.push.ensures.places ∙ so_far.lists.1);

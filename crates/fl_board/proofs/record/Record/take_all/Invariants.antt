@@ -1,4 +1,5 @@
-use Rattle.std.proofs.Common.{◌≡◌, ◌≤◌, ◌<◌, length}
+use Rattle.std.proofs.Common.{◌≡◌, length}
+use mathlib.Core.List.{IsPrefix}
 use Rattle.fl_board.specs.Shown.{AreHandedIn}
 use Rattle.fl_board.proofs.record.Record.take_all.Given as goal
 
@@ -6,6 +7,7 @@ use Rattle.fl_board.proofs.record.Record.take_all.Given as goal
 abbrev pub invariant-loop-order : goal.invariant-loop-order
 invariant-loop-order g l = record {
   handed : AreHandedIn g.L.BoardName.rules l.fn.seat l.orders l.lists.lists l.seat;
+  stored : IsPrefix l.fn.self.stored l.self.stored;
   count : length l.lists.lists ≡ l.order-index;
   room : l.tolds.room ≡ l.fn.tolds.room;
   lists : (l.lists.room ≡ l.fn.lists.room) × (l.lists.places ≡ l.fn.lists.places);

@@ -7,16 +7,10 @@ use Rattle.fl_board.specs.Inside.Asks.{history_of}
 use Rattle.fl_desk.specs.Answered.{answered_by}
 use Rattle.fl_board.proofs.seat.Seat.begins.Goals as goal
 
-pub returns-then-begins-clause-begins : goal.returns-then-begins-clause-begins
-returns-then-begins-clause-begins g c =
+pub returns-then-begins-clause-short : goal.returns-then-begins-clause-short
+returns-then-begins-clause-short g c =
     let ours = g.L.BoardName.rules in
-    rw (← c.self.view_is) (
-      λ t. record {
-        had = history_begins ours _ _ (c.if-begins.ensures.begins.0 refl);
-        saw = history_begins ours _ _ (c.begins-then-begins.ensures.begins.0 t);
-      },
-      λ all. c.begins-then-begins.ensures.begins.1 (asks_begin ours _ _ all.saw),
-    )
+    rw (← c.self.view_is) (λ all. c.begins-then-begins.ensures.begins.1 (asks_begin ours _ _ all.saw))
 
 pub returns-then-begins-clause-most : goal.returns-then-begins-clause-most
 returns-then-begins-clause-most g c = λ t.
@@ -28,18 +22,13 @@ returns-then-begins-clause-most g c = λ t.
     let count : c.self.inside.share.amount ≤ length (answered_by worker (history_of ours c.args.asks.now)) =
     omega (arith, c.self.invariant.1, more) in
     rw (← c.self.view_is) (record {
-      begins = record {
-        had = history_begins ours _ _ own;
-        saw = history_begins ours _ _ (c.begins-then-begins.ensures.begins.0 t);
-      };
+      had = history_begins ours _ _ own;
       answered = answered;
+      saw = history_begins ours _ _ (c.begins-then-begins.ensures.begins.0 t);
       count = count;
     })
 
-pub returns-else-begins-clause-begins : goal.returns-else-begins-clause-begins
-returns-else-begins-clause-begins g c =
+pub returns-else-begins-clause-short : goal.returns-else-begins-clause-short
+returns-else-begins-clause-short g c =
     let ours = g.L.BoardName.rules in
-    rw (← c.self.view_is) (
-      λ t. absurd (cc (t, c.if-begins.false)),
-      λ all. c.begins.ensures.begins.1 (asks_begin ours _ _ all.had),
-    )
+    rw (← c.self.view_is) (λ all. c.begins.ensures.begins.1 (asks_begin ours _ _ all.had))

@@ -13,9 +13,9 @@ returns-clause-shown g c =
     let most = c.if-not-begins.ensures.most refl in
     let told : replies (present_after ours shown) c.args.order.now ≡ own_replies c.args.order.now (Some c.in-Some.answer) = search rules in
     rw (← c.self.view_is) (record {
-      had = (most.begins).had;
+      had = most.had;
       answered = most.answered;
-      saw = (most.begins).saw;
+      saw = most.saw;
       answer = record {
         legal = leads.legal ours shown;
         answer = ap (λ (p : Snapshot). replies p c.args.order.now) (sym (leads.stands ours shown)) ∙ told;

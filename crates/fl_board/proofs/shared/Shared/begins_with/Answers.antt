@@ -1,35 +1,48 @@
-use Rattle.std.proofs.Common.{rules, ◌≡◌, ◌<◌, length, All, ap, ◌∙◌, arith, refl, subst, List}
+use Rattle.std.proofs.Common.{rules, ◌≡◌, ◌<◌, length, All, arith, subst, List}
 use Rattle.std.proofs.Math.ListN.{get_or}
 use Rattle.std.proofs.lemmas.List.{take_more, take_all}
 use Rattle.std.proofs.lemmas.List.Elements.{All-push}
+use mathlib.Core.List.{IsPrefix}
+use Rattle.fl_board.proofs.Refusing.{short_at}
 use Rattle.fl_board.specs.Inside.Asks.{HasMostOf, history_of}
-use Rattle.fl_board.specs.Refused.{BeginsWith}
 use Rattle.fl_board.specs.Seats.{Place}
+use Rattle.fl_board.proofs.shared.Shared.begins_with.Goals.{then-not-begins-via-then-not-begins, then-not-begins-via-else-not-begins+then-not-is_stored_in}
 use Rattle.fl_board.proofs.shared.Shared.begins_with.Goals as goal
 
 pub loop-seat-preserved : goal.loop-seat-preserved
 loop-seat-preserved g c =
-    let lt : c.loop-seat.seat-index < length c.args.seats.now = search rules in
-    let most : HasMostOf (history_of g.L.BoardName.rules c.args.self.now) c.seat-item.result = search rules in
-    let is : get_or c.args.seats.now c.loop-seat.seat-index c.seat-item.result ≡ c.seat-item.result = search rules in
-    rw (take_more c.args.seats.now c.loop-seat.seat-index c.seat-item.result lt, is)
-    (All-push (λ x. HasMostOf (history_of g.L.BoardName.rules c.args.self.now) x) _ _ c.loop-seat.invariant most)
+    let ours = g.L.BoardName.rules in
+    let seats = c.args.seats.now in
+    let lt : c.loop-seat.seat-index < length seats = search rules in
+    let most : HasMostOf (history_of ours c.args.self.now.asks) c.seat-item.result = search rules in
+    let stored : IsPrefix c.seat-item.result.stored (history_of ours c.args.self.now.stored) = search rules in
+    let is : get_or seats c.loop-seat.seat-index c.seat-item.result ≡ c.seat-item.result = search rules in
+    rw (take_more seats c.loop-seat.seat-index c.seat-item.result lt, is) (record {
+      most = All-push (λ x. HasMostOf (history_of ours c.args.self.now.asks) x) _ _ c.loop-seat.invariant.most most;
+      stored = All-push (λ x. IsPrefix x.stored (history_of ours c.args.self.now.stored)) _ _ c.loop-seat.invariant.stored stored;
+    })
 
 pub returns-clause-most : goal.returns-clause-most
-returns-clause-most g c = λ t. subst (λ (l : List Place). All (λ x. HasMostOf (history_of g.L.BoardName.rules c.args.self.now) x) l)
-    (take_all c.loop-seat.seat-index c.args.seats.now (omega (arith, c.loop-seat-test.false))) c.loop-seat.invariant
+returns-clause-most g c = λ t.
+    subst (λ (l : List Place). All (λ x. HasMostOf (history_of g.L.BoardName.rules c.args.self.now.asks) x) l)
+    (take_all c.loop-seat.seat-index c.args.seats.now (omega (arith, c.loop-seat-test.false))) c.loop-seat.invariant.most
 
-pub returns-clause-begins : goal.returns-clause-begins
-returns-clause-begins g c = (
-  λ t. λ k d short. (returns-clause-most g c refl k d short).begins,
-  λ all. refl,
-)
+pub returns-clause-stored : goal.returns-clause-stored
+returns-clause-stored g c = λ t.
+    subst (λ (l : List Place). All (λ x. IsPrefix x.stored (history_of g.L.BoardName.rules c.args.self.now.stored)) l)
+    (take_all c.loop-seat.seat-index c.args.seats.now (omega (arith, c.loop-seat-test.false))) c.loop-seat.invariant.stored
 
-pub returns-then-not-begins-clause-begins : goal.returns-then-not-begins-clause-begins
-returns-then-not-begins-clause-begins g c =
-    let lt : c.loop-seat.seat-index < length c.args.seats.now = search rules in
-    let is : get_or c.args.seats.now c.loop-seat.seat-index c.seat-item.result ≡ c.seat-item.result = search rules in (
-      λ t. absurd (cc t),
-      λ all. c.if-not-begins.ensures.begins.1
-          (rw (ap (λ s. s.record.asks) c.self-inside.view_is ∙ c.self.view_is) (subst (BeginsWith (history_of g.L.BoardName.rules c.args.self.now)) is (all c.loop-seat.seat-index c.seat-item.result lt))),
-    )
+pub returns-then-not-begins-clause-short : goal.returns-then-not-begins-clause-short
+returns-then-not-begins-clause-short g c = λ f.
+    let ours = g.L.BoardName.rules in
+    let seats = c.args.seats.now in
+    let i = c.loop-seat.seat-index in
+    let seat = c.seat-item.result in
+    let lt : i < length seats = search rules in
+    let is : get_or seats i seat ≡ seat = search rules in
+    let legal = c.asks_lead.ensures.legal ours in
+    elim c.then-not-begins.branch [
+      | then-not-begins-via-then-not-begins w ↦ short_at ours _ seats i seat (legal _) lt is w.if-not-begins.ensures.short
+      | then-not-begins-via-else-not-begins+then-not-is_stored_in w ↦
+          short_at ours _ seats i seat (legal _) lt is (λ begins. w.if-not-is_stored_in.ensures.1 begins.stored)
+    ]

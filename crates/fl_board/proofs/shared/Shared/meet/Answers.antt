@@ -1,7 +1,6 @@
 use Rattle.std.proofs.Common.{◌∙◌, ap, refl, subst, sym}
 use Rattle.fl_board.proofs.Refusing.{short_of_first, short_of_second}
-use Rattle.fl_board.specs.Inside.Asks.{history_of}
-use Rattle.fl_board.specs.Refused.{BeginsWith}
+use Rattle.fl_board.specs.Inside.Asks.{HasMostOf, history_of}
 use Rattle.fl_board.specs.Seats.{Place}
 use Rattle.fl_log.specs.declared.ask.Ask.{Ask}
 use Rattle.std.specs.Prelude.{List}
@@ -15,19 +14,19 @@ returns-then-not-begins-clause-no_view g c =
     let legal = c.asks_lead.ensures.legal ours all in
     elim c.then-not-begins.branch [
       | then-not-begins-via-then-not-begins w ↦
-          short_of_first ours (history_of ours all) _ _ legal (λ begins. cc (w.if-not-begins.ensures.begins.1 begins))
+          short_of_first ours (history_of ours all) _ _ legal (λ begins. cc (w.if-not-begins.ensures.short begins))
       | then-not-begins-via-else-not-begins+then-not-begins-2 w ↦
-          short_of_second ours (history_of ours all) _ _ _ legal (λ begins. cc (w.if-not-begins-2.ensures.begins.1 begins))
+          short_of_second ours (history_of ours all) _ _ _ legal (λ begins. cc (w.if-not-begins-2.ensures.short begins))
     ]
 
 pub returns-clause-met : goal.returns-clause-met
 returns-clause-met g c =
     let ours = g.L.BoardName.rules in
     let shown = c.again.result in
-    let at : (place : Place) → BeginsWith (history_of ours c.self-inside.inside.0.0.all) place → BeginsWith (history_of ours shown) place =
-    λ place. subst (λ (asks : List Ask). BeginsWith (history_of ours asks) place) (sym c.again.ensures) in
-    let one = at c.args.one.now (c.if-not-begins.ensures.begins.0 refl) in
-    let other = at c.args.other.now (c.if-not-begins-2.ensures.begins.0 refl) in
+    let at : (place : Place) → HasMostOf (history_of ours c.self-inside.inside.0.0.all) place → HasMostOf (history_of ours shown) place =
+    λ place. subst (λ (asks : List Ask). HasMostOf (history_of ours asks) place) (sym c.again.ensures) in
+    let one = at c.args.one.now (c.if-not-begins.ensures.most refl) in
+    let other = at c.args.other.now (c.if-not-begins-2.ensures.most refl) in
     record {
       legal = c.asks_lead.ensures.legal ours shown;
       same = ap (history_of ours) (c.again-2.ensures ∙ sym c.again.ensures);

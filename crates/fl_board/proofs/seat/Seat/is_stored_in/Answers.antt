@@ -1,5 +1,5 @@
 use Rattle.fl_board.proofs.Histories.{asks_begin, history_begins}
-use Rattle.fl_board.proofs.seat.Seat.is_in.Goals as goal
+use Rattle.fl_board.proofs.seat.Seat.is_stored_in.Goals as goal
 
 pub returns : goal.returns
 returns g c =
