@@ -35,6 +35,13 @@ module _ {A : Type 0} where
       let there : Sublistᴰ more all = rw (← append-nil more, ← begins.1) (sublist.append among (sublist.nil-sublist begins.0)) in
       sym (all_of more all there (omega (arith, total, grown.counted)))
 
+  -- the same of what there was up to the last that came
+  pub all_grown : (now all : List A) (count : ℕ) (more : List A) → Grows [] now 0 count more → IsPrefix now all
+      → length all ≡ count → now ≡ more
+  all_grown now all count more grown begins total =
+      sym (all_of more now (grown.among [] (sublist.refl []))
+      (omega (arith, total, grown.counted, ap length begins.1, length-append now begins.0)))
+
   -- one came last
   pub one_more : (had before now : List A) (count count_now : ℕ) (it : A) → IsPrefix had before
       → now ≡ before ++ it ∷ [] → count_now ≡ count + 1 → Grows had now count count_now (it ∷ [])

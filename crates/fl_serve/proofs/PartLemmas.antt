@@ -1,25 +1,27 @@
 -- What became of the orders that each worker took.
 use Rattle.std.proofs.Common.{◌≡◌, ℕ, ◌+◌, Bool, true, false, true≢false, List, [], ◌∷◌, ◌++◌, All, length, map, sum_by}
 use Rattle.std.proofs.Common.{refl, sym, ap, ◌∙◌, subst, arith, append_assoc}
-use Rattle.std.specs.Prelude.{◌||◌, flat_map}
+use Rattle.std.specs.Prelude.{◌||◌, flat_map, if◌then◌else◌, nat_le}
 use Rattle.std.proofs.lemmas.List.{length-map}
 use Rattle.std.proofs.lemmas.List.Elements.{All-cons, All-head, All-nil, All-tail}
 use Rattle.std.proofs.lemmas.List.Sums.{sum_by-append, sum_by-cons}
 use mathlib.Core.List.{IsPrefix}
 use mathlib.Core.List.Sublistᴰ as sublist
-use Rattle.fl_board.specs.Seats.{Place}
+use Rattle.fl_board.specs.Seats.{Place, front_of}
 use Rattle.fl_board.specs.Shown.{HasAllOf}
-use Rattle.fl_desk.specs.Answered.{Answered, IsAnsweredAfter, answered_by}
+use Rattle.fl_desk.specs.Answered.{Answered, IsAnsweredAfter, answered, answered_by}
+use Rattle.fl_desk.specs.Legal.{step_lines}
 use Rattle.fl_history.specs.declared.history.Line.{Line}
 use Rattle.fl_intake.specs.Often.{Weight}
 use Rattle.fl_log.specs.Appended.{Appended, HasAll as HasAllEntries}
 use Rattle.fl_log.specs.Growing.{Grows}
 use Rattle.fl_serve.specs.Inside.Working.{IsDone, Work}
-use Rattle.fl_serve.proofs.GrowingLemmas.{by_begins, just_these}
-use Rattle.fl_serve.specs.Serve.{IsAnswered, Part, orders_of, some_is}
+use Rattle.fl_serve.proofs.GrowingLemmas.{all_grown, by_begins, just_these}
+use Rattle.fl_serve.specs.Serve.{IsAnswered, IsKeptIn, Part, orders_of, some_is}
 use Rattle.fl_waiting.specs.declared.rules.Rules.{Rules}
 use Rattle.fl_workers.specs.Sent.{entries_of}
-use Rattle.fl_workers.specs.Worked.{AreShown, Outcome, Shows, answers, entry_for, handed, looked, order_of, refused, some_refused}
+use Rattle.fl_workers.specs.Worked.{AreInTurn, Outcome, Shows, answers, entry_for, handed, looked, order_of, refused}
+use Rattle.fl_workers.specs.Worked.{some_refused}
 use Rattle.fl_workers.specs.declared.entry.ReplyEntry.{ReplyEntry}
 
 abbrev pub author_of : ReplyEntry → ℕ
@@ -28,14 +30,24 @@ author_of e = e.author
 prefix_trans : (xs ys zs : List Line) → IsPrefix xs ys → IsPrefix ys zs → IsPrefix xs zs
 prefix_trans xs ys zs p q = (p.0 ++ q.0, sym (append_assoc xs p.0 q.0) ∙ ap (λ l. l ++ q.0) p.1 ∙ q.1)
 
--- what was shown up to some history is shown up to a longer one
-shown_to : (shows : Shows) (worker : ℕ) (from to on : List Line) (had : List Answered) (os : List Outcome)
-    → IsPrefix to on → AreShown shows worker from had os to → AreShown shows worker from had os on
-shown_to shows worker from to on had [] more shown = prefix_trans from to on shown more
-shown_to shows worker from to on had (handed order tolds ∷ os) more shown = shown_to shows worker from to on _ os more shown
-shown_to shows worker from to on had (looked order result at ∷ os) more shown =
-    (shown.0, shown.1, shown.2, shown.3, shown_to shows worker at to on had os more shown.4)
-shown_to shows worker from to on had (refused order ∷ os) more shown = shown_to shows worker from to on had os more shown
+-- what stands in turn up to some history does so up to a longer one
+turn_to : (shows : Shows) (worker : ℕ) (from to on : List Line) (had : List Answered) (os : List Outcome)
+    → IsPrefix to on → AreInTurn shows worker from had os to → AreInTurn shows worker from had os on
+turn_to shows worker from to on had [] more turn = prefix_trans from to on turn more
+turn_to shows worker from to on had (handed order tolds ∷ os) more turn = (
+  turn.0,
+  turn.1,
+  turn_to shows worker (turn.0 ++ step_lines worker order tolds) to on (had ++ answered order tolds ∷ []) os more turn.2,
+)
+turn_to shows worker from to on had (looked order result at ∷ os) more turn =
+    (turn.0, turn.1, turn.2, turn.3, turn_to shows worker at to on had os more turn.4)
+turn_to shows worker from to on had (refused order ∷ os) more turn = turn_to shows worker from to on had os more turn
+
+-- the history begins with all that was handed in or shown
+front_begins : (history : List Line) (place : Place) → HasAllOf history place → IsPrefix (front_of place) history
+front_begins history place has =
+    elim (nat_le (length place.own) (length place.seen))
+    as (λ b. IsPrefix (if b then place.seen else place.own) history) [ true ↦ has.saw | false ↦ has.had ]
 
 module _ (rules : Rules) where
   -- a worker, with what became of its orders
@@ -73,8 +85,8 @@ module _ (rules : Rules) where
   answered_one history w done has = record {
     handed = just_these (answered_by w.place.worker w.place.own) (answered_by w.place.worker history) w.place.count
         (answers done.outcomes) done.handed has.answered has.count;
-    shown = shown_to (IsAnsweredAfter rules) w.place.worker [] w.place.seen history [] done.outcomes has.saw
-        (done.shown [] (sublist.refl []));
+    shown = turn_to (IsAnsweredAfter rules) w.place.worker [] (front_of w.place) history [] done.outcomes
+        (front_begins history w.place has) (done.shown [] (sublist.refl []));
   }
 
   pub answered_each : (history : List Line) (works : List Work) (each : All (IsDone rules) works)
@@ -87,6 +99,31 @@ module _ (rules : Rules) where
       All-cons (IsAnswered rules history) _ _
       (answered_one history w (All-head (IsDone rules) w works each) (All-head P w.place places has))
       (answered_each history works (All-tail (IsDone rules) w works each) (All-tail P w.place places has))
+
+  -- what is stored has those that were handed in
+  kept_one : (history stored : List Line) (w : Work) (done : IsDone rules w) → HasAllOf history w.place
+      → IsPrefix w.place.stored stored → IsKeptIn stored (part_of w done)
+  kept_one history stored w done has begins = record {
+    front = w.place.stored;
+    begins = begins;
+    all = done.stored refl ∙ all_grown (answered_by w.place.worker w.place.own) (answered_by w.place.worker history)
+        w.place.count (answers done.outcomes) done.handed has.answered has.count;
+  }
+
+  pub kept_each : (history stored : List Line) (works : List Work) (each : All (IsDone rules) works)
+      → All (HasAllOf history) (map (λ (w : Work). w.place) works)
+      → All (λ (p : Place). IsPrefix p.stored stored) (map (λ (w : Work). w.place) works)
+      → All (IsKeptIn stored) (parts_of works each)
+  kept_each history stored [] each has begin = All-nil (IsKeptIn stored)
+  kept_each history stored (w ∷ works) each has begin =
+      let P = HasAllOf history in
+      let Q : Place → Type 0 = λ p. IsPrefix p.stored stored in
+      let places = map (λ (w : Work). w.place) works in
+      All-cons (IsKeptIn stored) _ _
+      (kept_one history stored w (All-head (IsDone rules) w works each) (All-head P w.place places has)
+      (All-head Q w.place places begin))
+      (kept_each history stored works (All-tail (IsDone rules) w works each) (All-tail P w.place places has)
+      (All-tail Q w.place places begin))
 
   -- they handed in as many as their places count
   pub as_many_handed : (works : List Work) (each : All (IsDone rules) works)

@@ -2,20 +2,21 @@
 use Rattle.std.proofs.Common.{◌≡◌, ℕ, List, [], ◌∷◌, ◌++◌, All, map, sym, ap, ◌∙◌, subst, append_assoc}
 use Rattle.std.proofs.lemmas.List.{map-append}
 use Rattle.std.proofs.lemmas.List.Elements.{All-head, All-push, All-tail}
-use Rattle.fl_board.specs.Seats.{Place}
+use Rattle.fl_board.specs.Seats.{Place, front_of}
 use Rattle.fl_desk.specs.Answered.{answered_by}
 use Rattle.fl_log.specs.Appended.{Appended}
-use Rattle.fl_serve.specs.Inside.Working.{IsIdle}
+use Rattle.fl_serve.specs.Inside.Working.{IsIdle, IsUnused}
 use Rattle.fl_workers.specs.declared.entry.ReplyEntry.{ReplyEntry}
 
 -- nothing was done at a fresh seat, with a fresh appender in its worker's name
-pub idle_at : (place : Place) (sent : Appended ReplyEntry) → (place.count ≡ 0) × (place.own ≡ []) × (place.seen ≡ [])
+pub idle_at : (place : Place) (sent : Appended ReplyEntry) → IsUnused place
     → sent ≡ record { author = place.worker; count = 0; own = [] } → IsIdle place sent
 idle_at place sent fresh is = λ i. record {
   worker = place.worker;
   count = fresh.0 i;
   answered = answered_by place.worker (fresh.1 i);
-  seen = fresh.2 i;
+  front = front_of (record place { own = fresh.1 i; seen = fresh.2 i });
+  stored = fresh.3 i;
   sent = is i;
 }
 

@@ -10,6 +10,7 @@ use Rattle.std.proofs.lemmas.List.FromFn.{length-range_with_len}
 use Rattle.std.specs.List.{range_with_len}
 use Rattle.std.specs.Prelude.{IfSome, IsSome, not, ◌&&◌, ◌||◌}
 use Rattle.std.specs.Io.KnownBytes.{Keeps}
+use mathlib.Core.List.{IsPrefix}
 use Rattle.fl_board.specs.Seats.{Place}
 use Rattle.fl_board.specs.Shown.{HasAllOf}
 use Rattle.fl_desk.specs.Asked.{Orders}
@@ -20,8 +21,8 @@ use Rattle.fl_log.specs.Appended.{Appended, HasAll as HasAllEntries, IsAppended}
 use Rattle.fl_log.specs.Growing.{Grows}
 use Rattle.fl_serve.specs.Inside.Working.{HaveDone, Work}
 use Rattle.fl_serve.proofs.GrowingLemmas.{appended_more, by_begins, just_these, then_more}
-use Rattle.fl_serve.proofs.PartLemmas.{answered_each, as_many_handed, author_of, gave_each, parts_of, same_orders, same_refused}
-use Rattle.fl_serve.proofs.PartLemmas.{same_workers}
+use Rattle.fl_serve.proofs.PartLemmas.{answered_each, as_many_handed, author_of, gave_each, kept_each, parts_of, same_orders}
+use Rattle.fl_serve.proofs.PartLemmas.{same_refused, same_workers}
 use Rattle.fl_serve.specs.Inside.Closing.{HasAll, HasGrown, HasSaidGoodbye, last_words}
 use Rattle.fl_serve.specs.Serve.{AreAllGiven, AreDone, HasNoHistory, IsRecordedBy, IsServedBy, Part}
 use Rattle.fl_session.specs.Recorded.{done_of, journal_lines}
@@ -146,12 +147,12 @@ all_given rules workers it start out sents places orders any lost whole received
 
 -- the orders of the messages were handed in, looked for or refused
 all_done : (rules : Rules) (workers : ℕ) (messages : List (List ℕ)) (put : Orders) (sents : List (Appended ReplyEntry))
-    (places : List Place) (orders : Weight → ℕ) (any lost : Bool) (told : Option Fault) (done : Done)
-    → put ≡ said_in messages → ((weight : Weight) → sum_by weight put ≡ orders weight)
+    (places : List Place) (orders : Weight → ℕ) (any lost : Bool) (told : Option Fault) (stored : List Line)
+    (done : Done) → put ≡ said_in messages → ((weight : Weight) → sum_by weight put ≡ orders weight)
     → map (λ (p : Place). p.worker) places ≡ range_with_len 0 workers
-    → (did : HaveDone rules orders places sents any lost) → HasAll places any told done
-    → AreDone workers rules messages (parts_of rules did.works did.each) done
-all_done rules workers messages put sents places orders any lost told done said is whose did all = record {
+    → (did : HaveDone rules orders places sents any lost) → HasAll places any told stored done
+    → AreDone workers rules messages stored (parts_of rules did.works did.each) done
+all_done rules workers messages put sents places orders any lost told stored done said is whose did all = record {
   whose = same_workers rules did.works did.each ∙ ap (map (λ (p : Place). p.worker)) did.at ∙ whose;
   taken = λ weight. omega (
     arith,
@@ -162,6 +163,9 @@ all_done rules workers messages put sents places orders any lost told done said 
   );
   each = answered_each rules done.history did.works did.each
       (subst (λ l. All (HasAllOf done.history) l) (sym did.at) all.each);
+  kept = kept_each rules done.history stored did.works did.each
+      (subst (λ l. All (HasAllOf done.history) l) (sym did.at) all.each)
+      (subst (λ l. All (λ (p : Place). IsPrefix p.stored stored) l) (sym did.at) all.kept);
   all = all.counted ∙ ap (sum_by (λ (p : Place). p.count)) (sym did.at) ∙ sym (as_many_handed rules did.works did.each);
   refused = all.tells ∙ did.refused ∙ same_refused rules did.works did.each;
 }
@@ -232,19 +236,19 @@ goodbye_said start out log log_now appenders all own mine goodbye closed said gi
 }
 
 -- what a board was told, as the result of its session
-pub closed_as : {K : Type 0} (lines : K → List Line) (places : List Place) (known any : Bool) (told : Option Fault)
-    (it : Recorded K)
-    → HasAll places any told (done_of lines it) × (known ≡ true)
+pub closed_as : {K : Type 0} (lines : K → List Line) (stored : List Line) (places : List Place) (known any : Bool)
+    (told : Option Fault) (it : Recorded K)
+    → HasAll places any told stored (done_of lines it) × (known ≡ true)
     ⊎ (it.fault ≡ Some NoReader) × (it.journal ≡ None) × (it.refused ≡ false)
-    → HasAll places any told (done_of lines it) × (known ≡ true)
+    → HasAll places any told stored (done_of lines it) × (known ≡ true)
     ⊎ ((done_of lines it).fault ≡ Some NoReader) × ((done_of lines it).history ≡ []) × ((done_of lines it).refused ≡ false)
-closed_as lines places known any told it closed =
+closed_as lines stored places known any told it closed =
     ⊎_elim (λ all. inl all) (λ none. inr (none.0, ap (journal_lines lines) none.1, none.2)) closed
 
 -- what a session did whose receiver ended
 pub served_by : (rules : Rules) (workers : ℕ) (it : Reception) (start held : Option (List ℕ)) (broken : Bool)
     (sents : List (Appended ReplyEntry)) (places : List Place) (orders : Weight → ℕ) (any lost whole : Bool)
-    (told : Option Fault) (done : Done)
+    (told : Option Fault) (stored : List Line) (done : Done)
     → HasReceived it → it.sent ≡ record { author = workers; count = 0; own = [] }
     → HaveDone rules orders places sents any lost
     → HasSaidGoodbye start (record { held = held; waiting = []; broken = broken }) sents it.sent_now it.goodbye whole
@@ -252,10 +256,10 @@ pub served_by : (rules : Rules) (workers : ℕ) (it : Reception) (start held : O
     → map (λ (p : Place). p.worker) places ≡ range_with_len 0 workers
     → ((messages : List (List ℕ)) (rest : List ℕ) (left : Option (List ℕ))
     → IsEnding it.fault (handshake_of messages).over rest left → EndsBy told broken messages rest left)
-    → HasAll places any told done × ((whole && not (it.lost || lost)) ≡ true)
+    → HasAll places any told stored done × ((whole && not (it.lost || lost)) ≡ true)
     ⊎ (done.fault ≡ Some NoReader) × (done.history ≡ []) × (done.refused ≡ false)
-    → IsServedBy workers rules (record { left = it.left; left_now = it.left_now; held = start; held_now = held }) done
-served_by rules workers it start held broken sents places orders any lost whole told done received fresh did said is
+    → IsServedBy workers rules (record { left = it.left; left_now = it.left_now; held = start; held_now = held }) stored done
+served_by rules workers it start held broken sents places orders any lost whole told stored done received fresh did said is
     whose ends closed = record {
       messages = received.messages;
       rest = received.rest;
@@ -274,7 +278,8 @@ served_by rules workers it start held broken sents places orders any lost whole 
           (λ all. inl (rw all.0.told (ends received.messages received.rest it.left_now received.ending)))
           (λ none. inr none.0) closed;
       orders = ⊎_elim
-          (λ all. inl (all_done rules workers received.messages it.put sents places orders any lost told done received.said is whose did all.0))
+          (λ all. inl (all_done rules workers received.messages it.put sents places orders any lost told stored done received.said
+          is whose did all.0))
           (λ none. inr (record { fault = inl none.0; history = none.1; refused = none.2 })) closed;
       unrefused = ⊎_elim
           (λ all no_reader. absurd (never_no_reader _ _ _ _ _ (ends received.messages received.rest it.left_now received.ending)
@@ -292,12 +297,13 @@ none_given workers log none = record {
 }
 
 -- what a session did that had no memory, or no reader
-pub unserved : (workers : ℕ) (rules : Rules) (streams : Streams) (log : List ReplyEntry) (broken : Bool) (done : Done)
+pub unserved : (workers : ℕ) (rules : Rules) (streams : Streams) (log : List ReplyEntry) (broken : Bool) (stored : List Line)
+    (done : Done)
     → IsRead streams.left streams.left_now [] []
     → IsGiven streams.held (record { held = streams.held_now; waiting = []; broken = broken }) (spelled log)
     → (done.fault ≡ Some NoMemory) × (log ≡ []) ⊎ (done.fault ≡ Some NoReader) → done.history ≡ []
-    → done.refused ≡ false → IsServedBy workers rules streams done
-unserved workers rules streams log broken done unread sent why none unrefused = record {
+    → done.refused ≡ false → IsServedBy workers rules streams stored done
+unserved workers rules streams log broken stored done unread sent why none unrefused = record {
   messages = [];
   rest = [];
   log = log;
@@ -314,16 +320,17 @@ unserved workers rules streams log broken done unread sent why none unrefused = 
 }
 
 -- the same, of which nothing was recorded
-pub none_recorded : {K : Type 0} (lines : K → List Line) (workers : ℕ) (rules : Rules) (streams : Streams)
+pub none_recorded : {K : Type 0} (lines stored : K → List Line) (workers : ℕ) (rules : Rules) (streams : Streams)
     (log : List ReplyEntry) (broken : Bool) (it : Recorded K) → (it.journal ≡ None) × (it.refused ≡ false)
     → (it.fault ≡ Some NoMemory) × (log ≡ []) ⊎ (it.fault ≡ Some NoReader)
     → IsRead streams.left streams.left_now [] []
     → IsGiven streams.held (record { held = streams.held_now; waiting = []; broken = broken }) (spelled log)
     → Keeps streams.left streams.left_now → (it.fault ≡ Some NoMemory → Keeps streams.held streams.held_now)
-    → IsRecordedBy lines workers rules streams it
-none_recorded lines workers rules streams log broken it none why unread sent read wrote = record {
+    → IsRecordedBy lines stored workers rules streams it
+none_recorded lines stored workers rules streams log broken it none why unread sent read wrote = record {
   legal = subst (λ k. IfSome k (λ k. IsLegal rules (lines k))) (sym none.0) tt;
-  served = unserved workers rules streams log broken (done_of lines it) unread sent why (ap (journal_lines lines) none.0) none.1;
+  served = unserved workers rules streams log broken (journal_lines stored it.journal) (done_of lines it) unread sent why
+      (ap (journal_lines lines) none.0) none.1;
   back = ⊎_elim (λ memory. inr (inl memory.0)) (λ reader. inr (inr reader)) why;
   nothing = λ _. (none.0, read);
   unwritten = wrote;
@@ -331,34 +338,35 @@ none_recorded lines workers rules streams log broken it none why unread sent rea
 }
 
 -- the same, of which a worker couldn't be started: either the writer holds what it held, or there is no reader
-pub unstarted_recorded : {K : Type 0} (lines : K → List Line) (workers : ℕ) (rules : Rules)
+pub unstarted_recorded : {K : Type 0} (lines stored : K → List Line) (workers : ℕ) (rules : Rules)
     (left left_now start held : Option (List ℕ)) (log : List ReplyEntry) (broken : Bool) (it : Recorded K)
     → (it.journal ≡ None) × (it.refused ≡ false) → (it.fault ≡ Some NoMemory) ⊎ (it.fault ≡ Some NoReader)
     → IsRead left left_now [] [] → IsGiven start (record { held = held; waiting = []; broken = broken }) (spelled log) → Keeps left left_now
     → (it.fault ≡ Some NoMemory → held ≡ start)
-    → IsRecordedBy lines workers rules (record { left = left; left_now = left_now; held = start; held_now = held }) it
-unstarted_recorded lines workers rules left left_now start held log broken it none why unread sent read wrote =
+    → IsRecordedBy lines stored workers rules (record { left = left; left_now = left_now; held = start; held_now = held }) it
+unstarted_recorded lines stored workers rules left left_now start held log broken it none why unread sent read wrote =
     let kept : it.fault ≡ Some NoMemory → Keeps start held =
     λ memory. subst (λ h. Keeps start h) (sym (wrote memory)) (Keeps-refl start) in
     ⊎_elim
-    (λ memory. none_recorded lines workers rules _ [] false it none (inl (memory, refl)) unread
+    (λ memory. none_recorded lines stored workers rules _ [] false it none (inl (memory, refl)) unread
     (subst (λ h. IsGiven start (record { held = h; waiting = []; broken = false }) (spelled [])) (sym (wrote memory)) (nothing_given start))
     read kept)
-    (λ reader. none_recorded lines workers rules _ log broken it none (inr reader) unread sent read kept) why
+    (λ reader. none_recorded lines stored workers rules _ log broken it none (inr reader) unread sent read kept) why
 
 -- the same, whose board was told; its rules, and what its writer held, have a name each
-pub all_recorded : {K : Type 0} (lines : K → List Line) (workers takers : ℕ) (rules by : Rules) (streams : Streams)
+pub all_recorded : {K : Type 0} (lines stored : K → List Line) (workers takers : ℕ) (rules by : Rules) (streams : Streams)
     (start : Option (List ℕ)) (it : Recorded K) → takers ≡ workers → rules ≡ by → streams.held ≡ start
     → IfSome it.journal (λ k. IsLegal by (lines k))
-    → IsServedBy takers by (record streams { held = start }) (done_of lines it)
+    → IsServedBy takers by (record streams { held = start }) (journal_lines stored it.journal) (done_of lines it)
     → IsSome it.journal ⊎ (it.fault ≡ Some NoReader) → it.fault ≢ Some NoMemory
-    → (it.fault ≡ Some NoReader → it.journal ≡ None) → IsRecordedBy lines workers rules streams it
-all_recorded lines workers takers rules by streams start it as_many same begun legal served back some untold = record {
+    → (it.fault ≡ Some NoReader → it.journal ≡ None) → IsRecordedBy lines stored workers rules streams it
+all_recorded lines stored workers takers rules by streams start it as_many same begun legal served back some untold = record {
   legal = rw same legal;
   served =
-      let here = subst (λ held. IsServedBy takers by (record streams { held = held }) (done_of lines it)) (sym begun) served in
-      subst (λ n. IsServedBy n rules streams (done_of lines it)) as_many
-      (subst (λ r. IsServedBy takers r streams (done_of lines it)) (sym same) here);
+      let kept = journal_lines stored it.journal in
+      let here = subst (λ held. IsServedBy takers by (record streams { held = held }) kept (done_of lines it)) (sym begun) served in
+      subst (λ n. IsServedBy n rules streams kept (done_of lines it)) as_many
+      (subst (λ r. IsServedBy takers r streams kept (done_of lines it)) (sym same) here);
   back = ⊎_elim inl (λ none. inr (inr none)) back;
   nothing = λ memory. absurd (some memory);
   unwritten = λ memory. absurd (some memory);
@@ -366,14 +374,14 @@ all_recorded lines workers takers rules by streams start it as_many same begun l
 }
 
 -- by its own names
-pub recorded_from : {K : Type 0} (lines : K → List Line) (workers takers : ℕ) (rules by : Rules)
+pub recorded_from : {K : Type 0} (lines stored : K → List Line) (workers takers : ℕ) (rules by : Rules)
     (left left_now start held held_now : Option (List ℕ)) (it : Recorded K) → takers ≡ workers → rules ≡ by → held ≡ start
-    → IsRecordedBy lines takers by (record { left = left; left_now = left_now; held = start; held_now = held_now }) it
-    → IsRecordedBy lines workers rules (record { left = left; left_now = left_now; held = held; held_now = held_now }) it
-recorded_from lines workers takers rules by left left_now start held held_now it many same begun recorded =
-    subst (λ n. IsRecordedBy lines n rules (record { left = left; left_now = left_now; held = held; held_now = held_now }) it) many
-    (subst (λ r. IsRecordedBy lines takers r (record { left = left; left_now = left_now; held = held; held_now = held_now }) it) (sym same)
-    (subst (λ h. IsRecordedBy lines takers by (record { left = left; left_now = left_now; held = h; held_now = held_now }) it) (sym begun) recorded))
+    → IsRecordedBy lines stored takers by (record { left = left; left_now = left_now; held = start; held_now = held_now }) it
+    → IsRecordedBy lines stored workers rules (record { left = left; left_now = left_now; held = held; held_now = held_now }) it
+recorded_from lines stored workers takers rules by left left_now start held held_now it many same begun recorded =
+    subst (λ n. IsRecordedBy lines stored n rules (record { left = left; left_now = left_now; held = held; held_now = held_now }) it) many
+    (subst (λ r. IsRecordedBy lines stored takers r (record { left = left; left_now = left_now; held = held; held_now = held_now }) it) (sym same)
+    (subst (λ h. IsRecordedBy lines stored takers by (record { left = left; left_now = left_now; held = h; held_now = held_now }) it) (sym begun) recorded))
 
 -- all workers came back, of whom there was one for each number
 pub workers_back : (places back : List Place) (workers takers : ℕ)

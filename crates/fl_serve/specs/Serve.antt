@@ -3,12 +3,13 @@ use Rattle.std.specs.Prelude.{◌≡◌, ℕ, ◌+◌, ◌≤◌, ◌⊎◌, Boo
 use Rattle.std.specs.Prelude.{◌||◌, IfSome, IsSome, Some, flat_map, map, sum_by}
 use Rattle.std.specs.Io.KnownBytes.{Keeps}
 use Rattle.std.specs.List.{range_with_len}
+use mathlib.Core.List.{IsPrefix}
 use Rattle.fl_desk.specs.Answered.{IsAnsweredAfter, answered_by}
 use Rattle.fl_desk.specs.Asked.{Orders}
 use Rattle.fl_desk.specs.Legal.{IsLegal, orders_asked}
 use Rattle.fl_history.specs.declared.history.Line.{Line}
 use Rattle.fl_intake.specs.Often.{AreAsOften}
-use Rattle.fl_session.specs.Recorded.{done_of}
+use Rattle.fl_session.specs.Recorded.{done_of, journal_lines}
 use Rattle.fl_session.specs.declared.done.Done.{Done}
 use Rattle.fl_session.specs.declared.recorded.Recorded.{Recorded}
 use Rattle.fl_transport.specs.Collecting.{IsGiven}
@@ -21,7 +22,7 @@ use Rattle.fl_transport.specs.declared.response.Response.{Response}
 use Rattle.fl_waiting.specs.declared.rules.Rules.{Rules}
 use Rattle.fl_workers.specs.Received.{IsLast, answer_by, own_answers}
 use Rattle.fl_workers.specs.Sent.{entries_of, spelled}
-use Rattle.fl_workers.specs.Worked.{AreShown, Outcome, answers, entry_for, order_of, some_refused}
+use Rattle.fl_workers.specs.Worked.{AreInTurn, Outcome, answers, entry_for, order_of, some_refused}
 use Rattle.fl_workers.specs.declared.entry.ReplyEntry.{ReplyEntry}
 
 -- a worker, and what became of each order that it took, in its order
@@ -33,12 +34,18 @@ pub record Part : Type 0 where
 abbrev pub orders_of : Part → Orders
 orders_of part = map order_of part.outcomes
 
--- The orders that the history has of this worker are those that it handed in, in this order, each with its replies.
--- Each order that it looked for only reads, and is answered as after a prefix of the history, which has all that it
--- handed in and was shown before.
+-- The orders that the history has of this worker are those that it handed in, in this order, each with its replies, and
+-- each behind all that the worker was shown before. Each order that it looked for only reads, and is answered as after
+-- a prefix of the history, which has all that it handed in and was shown before.
 pub record IsAnswered (rules : Rules) (history : List Line) (part : Part) : Type 0 where
   pub handed : answered_by part.worker history ≡ answers part.outcomes
-  pub shown : AreShown (IsAnsweredAfter rules) part.worker [] [] part.outcomes history
+  pub shown : AreInTurn (IsAnsweredAfter rules) part.worker [] [] part.outcomes history
+
+-- What is stored begins with lines that have each order that this worker handed in, with its replies.
+pub record IsKeptIn (stored : List Line) (part : Part) : Type 0 where
+  pub front : List Line
+  pub begins : IsPrefix front stored
+  pub all : answered_by part.worker front ≡ answers part.outcomes
 
 -- one of these is so
 abbrev pub some_is : List Bool → Bool
@@ -46,13 +53,15 @@ some_is [] = false
 some_is (b ∷ bs) = b || some_is bs
 
 -- The orders of the messages are those that the workers took, each as often. Each of these was handed in, looked for or
--- refused. The history has no order but those that were handed in. `refused` is true exactly if some order was refused.
-pub record AreDone (workers : ℕ) (rules : Rules) (messages : List (List ℕ)) (parts : List Part) (done : Done)
-    : Type 0 where
+-- refused. The history has no order but those that were handed in, and these are stored with their replies. `refused` is
+-- true exactly if some order was refused.
+pub record AreDone (workers : ℕ) (rules : Rules) (messages : List (List ℕ)) (stored : List Line) (parts : List Part)
+    (done : Done) : Type 0 where
   pub whose : map (λ part. part.worker) parts ≡ range_with_len 0 workers
   pub taken : AreAsOften (said_in messages) (flat_map orders_of parts)
   pub each : All (IsAnswered rules done.history) parts
   pub all : orders_asked done.history ≡ sum_by (λ part. length (answers part.outcomes)) parts
+  pub kept : All (IsKeptIn stored) parts
   pub refused : done.refused ≡ some_is (map (λ part. some_refused part.outcomes) parts)
 
 -- this was given last: the answer to the DESTROY that ended the session
@@ -82,9 +91,10 @@ pub record HasNoHistory (done : Done) : Type 0 where
 -- What was read is whole messages and a rest of at most 8192 bytes, and no message came after one that ended the
 -- session. What was written behind what the writer held are the bytes of a log of what was given to be sent, whole
 -- replies; after a failed write (`broken`), a prefix of them. The log is as `AreAllGiven` says, the fault is that of the
--- end, and each order of the messages was answered, as `AreDone` says. At NoMemory nothing was read, and there is no
--- history. At NoReader neither the history nor the log can be told.
-pub record IsServedBy (workers : ℕ) (rules : Rules) (streams : Streams) (done : Done) : Type 0 where
+-- end, and each order of the messages was answered, as `AreDone` says. `stored` are the lines that are stored then. At
+-- NoMemory nothing was read, and there is no history. At NoReader neither the history nor the log can be told.
+pub record IsServedBy (workers : ℕ) (rules : Rules) (streams : Streams) (stored : List Line) (done : Done)
+    : Type 0 where
   pub messages : List (List ℕ)
   pub rest : List ℕ
   pub log : List ReplyEntry
@@ -95,16 +105,16 @@ pub record IsServedBy (workers : ℕ) (rules : Rules) (streams : Streams) (done 
   pub sent : IsGiven streams.held (record { held = streams.held_now; waiting = []; broken = broken }) (spelled log)
   pub given : AreAllGiven workers messages parts log ⊎ (done.fault ≡ Some NoReader)
   pub ending : EndsBy done.fault broken messages rest streams.left_now ⊎ (done.fault ≡ Some NoReader)
-  pub orders : AreDone workers rules messages parts done ⊎ HasNoHistory done
+  pub orders : AreDone workers rules messages stored parts done ⊎ HasNoHistory done
   pub unrefused : done.fault ≡ Some NoReader → done.refused ≡ false
 
 -- The result of a session with so many workers under these rules whose lines went to a journal. They are legal, and
 -- with them it served what was read. The journal is there, except at NoReader, and at NoMemory, when nothing was read
--- or written.
-pub record IsRecordedBy {K : Type 0} (lines : K → List Line) (workers : ℕ) (rules : Rules) (streams : Streams)
+-- or written. `lines` and `stored` are what a journal says of its lines.
+pub record IsRecordedBy {K : Type 0} (lines stored : K → List Line) (workers : ℕ) (rules : Rules) (streams : Streams)
     (it : Recorded K) : Type 0 where
   pub legal : IfSome it.journal (λ journal. IsLegal rules (lines journal))
-  pub served : IsServedBy workers rules streams (done_of lines it)
+  pub served : IsServedBy workers rules streams (journal_lines stored it.journal) (done_of lines it)
   pub back : IsSome it.journal ⊎ (it.fault ≡ Some NoMemory) ⊎ (it.fault ≡ Some NoReader)
   pub nothing : it.fault ≡ Some NoMemory → (it.journal ≡ None) × Keeps streams.left streams.left_now
   pub unwritten : it.fault ≡ Some NoMemory → Keeps streams.held streams.held_now

@@ -11,9 +11,10 @@ ghost use Rattle.fl_transport.specs.Ending.{IsRead};
 ghost use Rattle.fl_workers.specs.Received.{HasReceived, answer_by};
 ghost use Rattle.fl_workers.specs.Room.{HasRoomFor};
 ghost use Rattle.fl_workers.specs.Sent.{spelled};
+ghost use Rattle.fl_serve.specs.Inside.Running.{reception_of};
 ghost use Rattle.fl_serve.specs.Inside.Working.{HaveDone};
 ghost use Rattle.fl_serve.specs.Inside.Closing.{HasAll, HasGrown, HasSaidGoodbye, last_words};
-ghost use Rattle.fl_session.specs.Recorded.{done_of};
+ghost use Rattle.fl_session.specs.Recorded.{done_of, journal_lines};
 ghost use Rattle.fl_serve.specs.Serve.{IsServedBy};
 
 use crate::pool::{WorkerPool, handed_in};
@@ -83,32 +84,16 @@ pub(crate) fn finish<
     requires replies { HasRoomFor (L.rules.parked + 1) replies }
     ensures writer { result.1.ghost_name ≡ N.writer }
     ensures legal { IfSome result.0.journal (λ journal. IsLegal L.rules (J.lines journal)) }
-    ensures served { (left left_now : Option (List ℕ)) → HasReceived (record {
-      left = left;
-      left_now = left_now;
-      fault = received.fault;
-      put = received.put.put;
-      goodbye = received.goodbye;
-      sent = record { author = received.put.takers; count = 0; own = [] };
-      sent_now = received.own;
-      lost = received.lost;
-    }) → IsServedBy received.put.takers L.rules (record {
-      left = left;
-      left_now = left_now;
-      held = N.start;
-      held_now = W.contents result.1.now;
-    }) (done_of J.lines result.0) }
+    ensures served { (left left_now : Option (List ℕ)) → HasReceived (reception_of left left_now
+        (record { author = received.put.takers; count = 0; own = [] }) received) → IsServedBy received.put.takers L.rules (record {
+          left = left;
+          left_now = left_now;
+          held = N.start;
+          held_now = W.contents result.1.now;
+        }) (journal_lines J.stored result.0.journal) (done_of J.lines result.0) }
     ensures back { IsSome result.0.journal ⊎ (result.0.fault ≡ Some Fault.NoReader) }
-    ensures untold { (left left_now : Option (List ℕ)) → HasReceived (record {
-      left = left;
-      left_now = left_now;
-      fault = received.fault;
-      put = received.put.put;
-      goodbye = received.goodbye;
-      sent = record { author = received.put.takers; count = 0; own = [] };
-      sent_now = received.own;
-      lost = received.lost;
-    }) → result.0.fault ≡ Some Fault.NoReader → result.0.journal ≡ None }
+    ensures untold { (left left_now : Option (List ℕ)) → HasReceived (reception_of left left_now
+        (record { author = received.put.takers; count = 0; own = [] }) received) → result.0.fault ≡ Some Fault.NoReader → result.0.journal ≡ None }
     ensures memory { received.fault ≢ Some Fault.NoMemory → result.0.fault ≢ Some Fault.NoMemory }
 {
     let WorkerPool {
@@ -202,7 +187,8 @@ fn close_board<L: BoardName, R: Wait + Drop, J: Journal + Drop>(
 ) -> Recorded<J>
     requires { L.workers ≡ L.parts }
     ensures legal { IfSome result.journal (λ journal. IsLegal L.rules (J.lines journal)) }
-    ensures told { HasAll seats.items refused fault (done_of J.lines result) × (known ≡ true)
+    ensures told { HasAll seats.items refused fault (journal_lines J.stored result.journal) (done_of J.lines result)
+        × (known ≡ true)
         ⊎ (result.fault ≡ Some Fault.NoReader) × (result.journal ≡ None) × (result.refused ≡ false) }
     ensures back { IsSome result.journal ⊎ (result.fault ≡ Some Fault.NoReader) }
     ensures untold { fault ≢ Some Fault.NoReader → result.fault ≡ Some Fault.NoReader → result.journal ≡ None }

@@ -6,9 +6,9 @@
 //! workers leave. Contracts let through a `serve`
 //! - that refuses every order for memory;
 //! - that tells `Read` or `Write` early, `NoMemory` having read nothing, or `NoReader` with an empty history;
-//! - of which one worker does all, or a worker handles its orders in another order than it took them, or looks late.
+//! - of which one worker does all, or a worker handles its orders in another order than it took them.
 //! `fl_serve_tests`, `tests/serve/workers.py` and `tests/serve/failing.py` refuse these; another order is refused by
-//! `worker_loop`, and a late look by `fl_workers_tests`.
+//! `worker_loop`.
 #![tactic(auto)]
 
 mod finishing;

@@ -9,8 +9,8 @@ ghost use Rattle.std.specs.Prelude.{◌≡◌, ◌≤◌, ◌<◌, ◌+◌, ◌|
 ghost use Rattle.std.specs.Prelude.{sum_by, vec_capacity};
 ghost use Rattle.fl_intake.specs.Often.{Weight};
 ghost use Rattle.fl_intake.specs.Ends.{weight_taken};
-ghost use Rattle.fl_serve.specs.Inside.Working.{HasComeBack, HasRun, HaveDone, IsFresh, IsIdle};
-ghost use Rattle.fl_transport.specs.Inbox.{IsUnread};
+ghost use Rattle.fl_serve.specs.Inside.Running.{CanRun, HasRunTo};
+ghost use Rattle.fl_serve.specs.Inside.Working.{HasComeBack, HaveDone, IsFresh, IsIdle};
 ghost use Rattle.fl_workers.specs.Room.{HasRoomFor, HasBatchFor};
 
 use crate::posts::{Back, Posts};
@@ -99,75 +99,19 @@ impl<
         posts: Posts<L, N>,
         own: Appender<N, ReplyEntry>,
     ) -> (Back<L, N>, Received<N>)
-        requires unread { IsUnread inbox }
-        requires put { (put.of ≡ self.now.intake) × (put.closed ≡ false) × (put.put ≡ []) }
-        requires ends { All (IsFresh self.now.intake) posts.ends.items }
-        requires rooms { All (HasBatchFor (L.rules.parked + 1)) posts.rooms.items }
-        ensures ran { HasRun (record {
-          rules = L.rules;
-          of = self.now.intake;
-          takers = put.takers;
-          places = map (λ post. post.seat) posts.posts.items;
-          back = record {
-            places = result.0.seats.items;
-            sent = result.0.appenders.items;
-            ends = result.0.ends.items;
-            any = result.0.failures.refused;
-            lost = result.0.failures.lost;
-          };
-          put_of = result.1.put.of;
-          put_takers = result.1.put.takers;
-          reception = record {
-            left = I.remaining r.old;
-            left_now = I.remaining r.new;
-            fault = result.1.fault;
-            put = result.1.put.put;
-            goodbye = result.1.goodbye;
-            sent = own;
-            sent_now = result.1.own;
-            lost = result.1.lost;
-          };
-        }) }
-        ensures pairs { length result.0.appenders.items ≡ length result.0.seats.items }
-        ensures room { length result.0.appenders.items < vec_capacity result.0.appenders }
+        requires { CanRun L.rules self.now.intake inbox put posts.ends.items posts.rooms.items }
+        ensures { HasRunTo L.rules self.now.intake put (map (λ post. post.seat) posts.posts.items)
+            (I.remaining r.old) (I.remaining r.new) own result.0 result.1 }
     {
         let rt = self.rt;
         let (back, received, r) = thread::scope(
             thread::scope_env(),
             rt,
             move |scope| -> (Back<L, N>, Received<N>, &mut I)
-                requires unread { IsUnread inbox }
-                requires put { (put.of ≡ self.now.intake) × (put.closed ≡ false) × (put.put ≡ []) }
-                requires ends { All (IsFresh self.now.intake) posts.ends.items }
-                requires rooms { All (HasBatchFor (L.rules.parked + 1)) posts.rooms.items }
+                requires { CanRun L.rules self.now.intake inbox put posts.ends.items posts.rooms.items }
                 ensures same { result.2.ghost_name ≡ r.entry.ghost_name }
-                ensures ran { HasRun (record {
-                  rules = L.rules;
-                  of = self.entry.now.intake;
-                  takers = put.takers;
-                  places = map (λ post. post.seat) posts.posts.items;
-                  back = record {
-                    places = result.0.seats.items;
-                    sent = result.0.appenders.items;
-                    ends = result.0.ends.items;
-                    any = result.0.failures.refused;
-                    lost = result.0.failures.lost;
-                  };
-                  put_of = result.1.put.of;
-                  put_takers = result.1.put.takers;
-                  reception = record {
-                    left = I.remaining r.entry.now;
-                    left_now = I.remaining result.2.now;
-                    fault = result.1.fault;
-                    put = result.1.put.put;
-                    goodbye = result.1.goodbye;
-                    sent = own;
-                    sent_now = result.1.own;
-                    lost = result.1.lost;
-                  };
-                }) }
-                ensures pairs { length result.0.appenders.items ≡ length result.0.seats.items }
-                ensures room { length result.0.appenders.items < vec_capacity result.0.appenders }
+                ensures ran { HasRunTo L.rules self.entry.now.intake put (map (λ post. post.seat) posts.posts.items)
+                    (I.remaining r.entry.now) (I.remaining result.2.now) own result.0 result.1 }
             {
                 // Taken whole, so that what its type keeps is known here.
                 let posts = posts;

@@ -1,7 +1,7 @@
 //! What the workers of a session get, and what they give back.
 
 ghost use Rattle.std.specs.Prelude.{◌≡◌, ◌≤◌, ◌<◌, ◌+◌, [], All, IfOk, length, map, vec_capacity};
-ghost use Rattle.fl_serve.specs.Inside.Working.{IsIdle};
+ghost use Rattle.fl_serve.specs.Inside.Working.{IsIdle, IsUnused};
 ghost use Rattle.fl_workers.specs.Room.{HasBatchFor};
 
 use crate::pool::Thread;
@@ -103,7 +103,7 @@ impl<L: BoardName, N: WriterName> Posts<L, N> {
     ) -> Posts<L, N>
         requires none { (self.posts.items ≡ []) × (sender.now.log ≡ []) }
         requires rest { (length seats.items < rest.old.parts) × (rest.old.amount ≡ 0) }
-        requires fresh { All (λ seat. (seat.count ≡ 0) × (seat.own ≡ []) × (seat.seen ≡ [])) seats.items }
+        requires fresh { All IsUnused seats.items }
         requires room { (length seats.items ≤ vec_capacity self.posts)
             × (length seats.items ≤ vec_capacity self.threads) × (length seats.items ≤ vec_capacity self.back.seats)
             × (length seats.items < vec_capacity self.back.appenders)

@@ -1,13 +1,12 @@
 //! A whole session of the FUSE protocol with workers, over any reader and any writer.
 
-ghost use Rattle.std.specs.Prelude.{◌≡◌, ◌≤◌, ◌<◌, ◌+◌, ◌⊎◌, [], All, Some, false, map};
+ghost use Rattle.std.specs.Prelude.{◌≡◌, ◌≤◌, ◌<◌, ◌+◌, ◌⊎◌, [], Some, map};
 ghost use Rattle.std.specs.Io.KnownBytes.{Keeps};
 ghost use Rattle.std.specs.List.{range_with_len};
 ghost use Rattle.fl_desk.specs.Legal.{IsLegal, LeavesLawful};
-ghost use Rattle.fl_serve.specs.Inside.Working.{IsFresh};
+ghost use Rattle.fl_serve.specs.Inside.Running.{CanRun};
 ghost use Rattle.fl_serve.specs.Serve.{IsRecordedBy, IsServedBy};
-ghost use Rattle.fl_transport.specs.Inbox.{IsUnread};
-ghost use Rattle.fl_workers.specs.Room.{HasRoomFor, HasBatchFor};
+ghost use Rattle.fl_workers.specs.Room.{HasRoomFor};
 
 use crate::finishing::{finish, unstarted};
 use crate::pool::WorkerPool;
@@ -55,7 +54,7 @@ pub fn serve<R: Threads + Wait + Sync, I: Read, W: Write + Send + Drop, G: Gate 
       left_now = I.remaining r.new;
       held = W.contents w.old;
       held_now = W.contents w.new;
-    }) result }
+    }) result.history result }
     ensures nothing { result.fault ≡ Some Fault.NoMemory
         → (result.history ≡ []) × Keeps (I.remaining r.old) (I.remaining r.new) }
     ensures unwritten { result.fault ≡ Some Fault.NoMemory → Keeps (W.contents w.old) (W.contents w.new) }
@@ -108,7 +107,7 @@ where
     R: Threads + Wait + Sync,
     requires workers { (0 < staff.workers) × (staff.workers ≤ 16) }
     requires none { J.lines journal ≡ [] }
-    ensures { IsRecordedBy J.lines staff.workers staff.rules (record {
+    ensures { IsRecordedBy J.lines J.stored staff.workers staff.rules (record {
       left = I.remaining r.old;
       left_now = I.remaining r.new;
       held = W.contents w.old;
@@ -161,7 +160,7 @@ fn run_at<
     requires sending { (sending.name ≡ N.name) × (sending.parts ≡ N.parts) × (staff.workers + 1 ≡ N.parts) }
     requires given { given ≡ N.log }
     ensures writer { result.1.ghost_name ≡ w.entry.ghost_name }
-    ensures recorded { IsRecordedBy J.lines staff.workers staff.rules (record {
+    ensures recorded { IsRecordedBy J.lines J.stored staff.workers staff.rules (record {
       left = I.remaining r.old;
       left_now = I.remaining r.new;
       held = W.contents w.old;
@@ -224,14 +223,11 @@ fn run_pool<
 ) -> (Recorded<J>, &'w mut W)
     requires parts { (L.workers ≡ L.parts) × (put.takers + 1 ≡ N.parts) × (0 < put.takers) }
     requires seats { map (λ post. post.seat.worker) posts.posts.items ≡ range_with_len 0 put.takers }
-    requires ends { All (IsFresh pool.intake) posts.ends.items }
-    requires put { (put.of ≡ pool.intake) × (put.closed ≡ false) × (put.put ≡ []) }
-    requires unread { IsUnread inbox }
+    requires can { CanRun L.rules pool.intake inbox put posts.ends.items posts.rooms.items }
     requires left { HasRoomFor (L.rules.parked + 1) left }
-    requires batches { All (HasBatchFor (L.rules.parked + 1)) posts.rooms.items }
     requires own { own ≡ record { author = put.takers; count = 0; own = [] } }
     ensures writer { result.1.ghost_name ≡ N.writer }
-    ensures recorded { IsRecordedBy J.lines put.takers L.rules (record {
+    ensures recorded { IsRecordedBy J.lines J.stored put.takers L.rules (record {
       left = I.remaining r.old;
       left_now = I.remaining r.new;
       held = N.start;

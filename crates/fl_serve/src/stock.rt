@@ -1,10 +1,9 @@
 //! What a session with workers has before its first read.
 
-ghost use Rattle.std.specs.Prelude.{◌≡◌, ◌≤◌, ◌<◌, ◌+◌, [], All, false, map, vec_capacity, IfOk};
+ghost use Rattle.std.specs.Prelude.{◌≡◌, ◌≤◌, ◌<◌, [], All, map, IfOk};
 ghost use Rattle.std.specs.List.{range_with_len};
-ghost use Rattle.fl_serve.specs.Inside.Working.{IsFresh};
-ghost use Rattle.fl_transport.specs.Inbox.{IsUnread};
-ghost use Rattle.fl_workers.specs.Room.{HasRoomFor, HasBatchFor};
+ghost use Rattle.fl_serve.specs.Inside.Running.{IsStocked};
+ghost use Rattle.fl_serve.specs.Inside.Working.{IsUnused};
 
 use crate::posts::Posts;
 use fl_board::{Board, BoardName, OpenFault, Seat};
@@ -34,17 +33,7 @@ pub(crate) struct Stock<L: BoardName, N: WriterName> {
 impl<L: BoardName, N: WriterName> Stock<L, N> {
     fn new(alloc: Global, workers: u32, rules: Rules) -> Result<Stock<L, N>, NoMemory>
         requires workers { (0 < workers) × (workers ≤ 16) }
-        ensures left { IfOk result (λ stock. HasRoomFor (rules.parked + 1) stock.left) }
-        ensures unread { IfOk result (λ stock. IsUnread stock.inbox) }
-        ensures none { IfOk result (λ stock. (stock.replies ≡ []) × (stock.posts.posts.items ≡ [])) }
-        ensures put { IfOk result (λ stock. (stock.put.of ≡ stock.intake) × (stock.put.takers ≡ workers)
-            × (stock.put.closed ≡ false) × (stock.put.put ≡ [])) }
-        ensures ends { IfOk result (λ stock. All (IsFresh stock.intake) stock.posts.ends.items) }
-        ensures batches { IfOk result (λ stock. All (HasBatchFor (rules.parked + 1)) stock.posts.rooms.items) }
-        ensures room { IfOk result (λ stock. (workers ≤ vec_capacity stock.posts.posts)
-            × (workers ≤ vec_capacity stock.posts.threads) × (workers ≤ vec_capacity stock.posts.back.seats)
-            × (workers < vec_capacity stock.posts.back.appenders)
-            × (workers ≤ vec_capacity stock.posts.back.ends)) }
+        ensures { IfOk result (IsStocked rules workers) }
     {
         let left = ReplyRoom::new(alloc, rules)?;
         let inbox = Inbox::new(alloc)?;
@@ -80,19 +69,8 @@ pub(crate) fn opened<L: BoardName, N: WriterName, R: Wait + Drop, J: Journal + D
     requires rules { rules ≡ L.rules }
     requires workers { (0 < workers) × (workers ≤ 16) }
     ensures seats { IfOk result (λ made. map (λ seat. seat.worker) made.1.items ≡ range_with_len 0 workers) }
-    ensures fresh { IfOk result (λ made.
-        All (λ seat. (seat.count ≡ 0) × (seat.own ≡ []) × (seat.seen ≡ [])) made.1.items) }
-    ensures left { IfOk result (λ made. HasRoomFor (L.rules.parked + 1) made.2.left) }
-    ensures unread { IfOk result (λ made. IsUnread made.2.inbox) }
-    ensures none { IfOk result (λ made. (made.2.replies ≡ []) × (made.2.posts.posts.items ≡ [])) }
-    ensures put { IfOk result (λ made. (made.2.put.of ≡ made.2.intake) × (made.2.put.takers ≡ workers)
-        × (made.2.put.closed ≡ false) × (made.2.put.put ≡ [])) }
-    ensures ends { IfOk result (λ made. All (IsFresh made.2.intake) made.2.posts.ends.items) }
-    ensures batches { IfOk result (λ made. All (HasBatchFor (L.rules.parked + 1)) made.2.posts.rooms.items) }
-    ensures room { IfOk result (λ made. (workers ≤ vec_capacity made.2.posts.posts)
-        × (workers ≤ vec_capacity made.2.posts.threads) × (workers ≤ vec_capacity made.2.posts.back.seats)
-        × (workers < vec_capacity made.2.posts.back.appenders)
-        × (workers ≤ vec_capacity made.2.posts.back.ends)) }
+    ensures fresh { IfOk result (λ made. All IsUnused made.1.items) }
+    ensures stock { IfOk result (λ made. IsStocked L.rules workers made.2) }
 {
     let stock = Stock::<L, N>::new(alloc, workers, rules)?;
     let (board, seats) = Board::<L, R, J>::over(alloc, rt, journal, blank, log, workers, rules)?;

@@ -1,9 +1,9 @@
 -- What became of orders that were handed in together.
-use Rattle.std.proofs.Common.{◌≡◌, ℕ, ◌+◌, ◌≤◌, Bool, false, List, [], ◌∷◌, ◌++◌, map, take, length}
-use Rattle.std.proofs.Common.{refl, sym, ap, arith, subst}
-use mathlib.Core.List.{IsPrefix}
-use Rattle.fl_desk.specs.Answered.{Answered, AreAnsweredLast, answered}
+use Rattle.std.proofs.Common.{◌≡◌, ℕ, ◌+◌, ◌<◌, ◌≤◌, Bool, false, List, [], ◌∷◌, ◌++◌, map, take, length}
+use Rattle.std.proofs.Common.{refl, sym, ap, ◌∙◌, arith, subst}
+use Rattle.fl_desk.specs.Answered.{Answered, AreAnsweredLast, AreBehind, answered, answered_by}
 use Rattle.fl_desk.specs.Asked.{Orders}
+use Rattle.fl_desk.specs.Legal.{step_lines}
 use Rattle.fl_history.specs.declared.history.Line.{Line}
 use Rattle.fl_log.specs.Growing.{Grows}
 use Rattle.fl_order.specs.declared.told.Told.{Told}
@@ -11,8 +11,8 @@ use Rattle.fl_workers.proofs.Growing.{none_more, one_more, then_more}
 use Rattle.fl_workers.proofs.WorkedLemmas.{begins_as}
 use Rattle.fl_workers.specs.Inside.Lists.{entries_for}
 use Rattle.fl_workers.specs.Sent.{HasSent, entry, replies_to}
-use Rattle.fl_workers.specs.Worked.{AreShown, HasWorked, Outcome, Shows, Standing, answers, entry_for, handed, order_of}
-use Rattle.fl_workers.specs.Worked.{some_refused}
+use Rattle.fl_workers.specs.Worked.{AreInTurn, AreStored, HasWorked, Outcome, Shows, Standing, answers, entry_for}
+use Rattle.fl_workers.specs.Worked.{handed, order_of, some_refused}
 
 -- the first of these orders were handed in, each with its list of replies
 abbrev handed_each : Orders → List (List Told) → List Outcome
@@ -40,12 +40,26 @@ each_answer before now (order ∷ orders) (tolds ∷ lists) count count_now last
     (one_more before last.1.others last.0 count (count + 1) it last.1.had last.1.is refl)
     (each_answer last.0 now orders lists (count + 1) count_now last.2 (omega arith))
 
-each_shown : (shows : Shows) (worker : ℕ) (from to : List Line) (had : List Answered) (orders : Orders)
-    (lists : List (List Told)) → IsPrefix from to → AreShown shows worker from had (handed_each orders lists) to
-each_shown shows worker from to had orders [] begins = begins
-each_shown shows worker from to had [] (tolds ∷ lists) begins = begins
-each_shown shows worker from to had (order ∷ orders) (tolds ∷ lists) begins =
-    each_shown shows worker from to (had ++ answered order tolds ∷ []) orders lists begins
+-- each stands behind what was handed in and shown before
+each_behind : (shows : Shows) (worker : ℕ) (from to : List Line) (had : List Answered) (orders : Orders)
+    (lists : List (List Told)) → AreBehind worker from orders lists to
+    → AreInTurn shows worker from had (handed_each orders lists) to
+each_behind shows worker from to had orders [] same = begins_as from to same
+each_behind shows worker from to had [] (tolds ∷ lists) never = absurd never
+each_behind shows worker from to had (order ∷ orders) (tolds ∷ lists) behind = (
+  behind.0,
+  behind.1,
+  each_behind shows worker (behind.0 ++ step_lines worker order tolds) to (had ++ answered order tolds ∷ []) orders lists
+      behind.2,
+)
+
+-- the lines of all that were handed in are stored, or none was
+each_stored : (p q : Standing) (orders : Orders) (lists : List (List Told)) → q.worker ≡ p.worker
+    → AreAnsweredLast p.answered orders lists q.answered → (0 < length lists → AreStored q)
+    → (length lists ≡ 0 → q.stored ≡ p.stored) → AreStored p → AreStored q
+each_stored p q orders [] worker same stored no_more before =
+    (λ i. answered_by (worker i) (no_more refl i)) ∙ before ∙ sym same
+each_stored p q orders (tolds ∷ lists) worker last stored no_more before = stored (omega arith)
 
 none_refused : (orders : Orders) (lists : List (List Told)) → false ≡ some_refused (handed_each orders lists)
 none_refused orders [] = refl
@@ -69,16 +83,18 @@ few_lists before now (order ∷ orders) (tolds ∷ lists) last =
 
 -- the first of these orders were handed in together, and the replies to each were given or lost
 pub lists_handed : (shows : Shows) (orders : Orders) (lists : List (List Told)) (p q : Standing) (lost : Bool)
-    → q.worker ≡ p.worker → q.seen ≡ p.seen → q.count ≡ p.count + length lists
-    → AreAnsweredLast p.answered orders lists q.answered
+    → q.worker ≡ p.worker → q.count ≡ p.count + length lists
+    → AreAnsweredLast p.answered orders lists q.answered → AreBehind p.worker p.front orders lists q.front
+    → (0 < length lists → AreStored q) → (length lists ≡ 0 → q.stored ≡ p.stored)
     → HasSent (entries_for p.sent.author lists) p.sent q.sent lost
     → HasWorked shows (take (length lists) orders) p q false lost
-lists_handed shows orders lists p q lost worker seen more last sent = record {
+lists_handed shows orders lists p q lost worker more last behind stored no_more sent = record {
   outcomes = handed_each orders lists;
   are = each_order orders lists;
   worker = worker;
   handed = each_answer p.answered q.answered orders lists p.count q.count last more;
-  shown = λ had among. each_shown shows p.worker p.seen q.seen had orders lists (begins_as p.seen q.seen seen);
+  shown = λ had among. each_behind shows p.worker p.front q.front had orders lists behind;
+  stored = each_stored p q orders lists worker last stored no_more;
   refused = none_refused orders lists;
   sent = subst (λ owed. HasSent owed p.sent q.sent lost)
       (each_entry p.sent.author p.answered q.answered orders lists last) sent;

@@ -3,6 +3,7 @@ use Rattle.std.specs.Prelude.{◌≡◌, ℕ, Bool, true, false, List, [], ◌�
 use mathlib.Core.List.{IsPrefix, Sublistᴰ}
 use Rattle.fl_desk.specs.Answered.{Answered, answered, answered_by}
 use Rattle.fl_desk.specs.Asked.{Orders}
+use Rattle.fl_desk.specs.Legal.{step_lines}
 use Rattle.fl_history.specs.declared.history.Line.{Line}
 use Rattle.fl_log.specs.Appended.{Appended}
 use Rattle.fl_log.specs.Growing.{Grows}
@@ -65,44 +66,60 @@ some_refused (o ∷ os) = is_refused o || some_refused os
 abbrev pub Shows : Type 1
 Shows = List Line → Order → Result Answer Errno → Type 0
 
--- Each order that was looked for only reads, and is answered after a history that has all that this worker handed in
--- before, with its replies, and that begins with each history after which an earlier one was answered. The first
--- begins with `from`, the last begins `to`, and `had` was handed in before the first of these.
-abbrev pub AreShown : Shows → ℕ → List Line → List Answered → List Outcome → List Line → Type 0
-AreShown shows worker from had [] to = IsPrefix from to
-AreShown shows worker from had (handed order tolds ∷ os) to =
-    AreShown shows worker from (had ++ answered order tolds ∷ []) os to
-AreShown shows worker from had (looked order result at ∷ os) to =
+-- Each order that was handed in stands in the history, with its replies, behind all that this worker handed in and was
+-- shown before. Each that was looked for only reads, and is answered after a history that begins with all this, and has
+-- all that was handed in before, with its replies. The first begins with `from`, the last begins `to`, and `had` was
+-- handed in before the first of these.
+abbrev pub AreInTurn : Shows → ℕ → List Line → List Answered → List Outcome → List Line → Type 0
+AreInTurn shows worker from had [] to = IsPrefix from to
+AreInTurn shows worker from had (handed order tolds ∷ os) to =
+    (before : List Line) × IsPrefix from before
+    × AreInTurn shows worker (before ++ step_lines worker order tolds) (had ++ answered order tolds ∷ []) os to
+AreInTurn shows worker from had (looked order result at ∷ os) to =
     (only_reads order.op ≡ true) × IsPrefix from at × Sublistᴰ had (answered_by worker at) × shows at order result
-    × AreShown shows worker at had os to
-AreShown shows worker from had (refused order ∷ os) to = AreShown shows worker from had os to
+    × AreInTurn shows worker at had os to
+AreInTurn shows worker from had (refused order ∷ os) to = AreInTurn shows worker from had os to
 
 -- Where a worker stands: its number, how many orders were handed in at its seat, those of the history up to the last
--- of them with their replies, the longest history that was shown there, and what was given to be sent.
+-- of them with their replies, the longest history that was shown there or that ends with one of them, a beginning of
+-- the history whose lines are stored, and what was given to be sent.
 pub record Standing : Type 0 where
   pub worker : ℕ
   pub count : ℕ
   pub answered : List Answered
-  pub seen : List Line
+  pub front : List Line
+  pub stored : List Line
   pub sent : Appended ReplyEntry
 
 -- the same of a seat, of which these tell
-abbrev pub standing : {S : Type 0} → (S → ℕ) → (S → ℕ) → (S → List Answered) → (S → List Line) → S
+abbrev pub standing : {S : Type 0} → (S → ℕ) → (S → ℕ) → (S → List Answered) → (S → List Line) → (S → List Line) → S
     → Appended ReplyEntry → Standing
-standing worker count answered seen seat sent =
-    record { worker = worker seat; count = count seat; answered = answered seat; seen = seen seat; sent = sent }
+standing worker count answered front stored seat sent =
+    record {
+      worker = worker seat;
+      count = count seat;
+      answered = answered seat;
+      front = front seat;
+      stored = stored seat;
+      sent = sent;
+    }
+
+-- All that the worker handed in, each order with its replies, is in the lines that are stored.
+abbrev pub AreStored : Standing → Type 0
+AreStored it = answered_by it.worker it.stored ≡ it.answered
 
 -- At one seat these orders were handed in, looked for or refused, one after another. Those that were handed in are
--- counted, and answered in this order with the replies that are given to be sent. `any` tells if one was refused. What
--- is owed for each order was given to be sent, in this order, and nothing else; some may lack if something was lost on
--- the way to the sender.
+-- counted, and answered in this order with the replies that are given to be sent, and their lines are stored. `any`
+-- tells if one was refused. What is owed for each order was given to be sent, in this order, and nothing else; some may
+-- lack if something was lost on the way to the sender.
 pub record HasWorked (shows : Shows) (orders : Orders) (old new : Standing) (any lost : Bool) : Type 0 where
   pub outcomes : List Outcome
   pub are : orders ≡ map order_of outcomes
   pub worker : new.worker ≡ old.worker
   pub handed : Grows old.answered new.answered old.count new.count (answers outcomes)
   pub shown : (had : List Answered) → Sublistᴰ had old.answered
-      → AreShown shows old.worker old.seen had outcomes new.seen
+      → AreInTurn shows old.worker old.front had outcomes new.front
+  pub stored : AreStored old → AreStored new
   pub refused : any ≡ some_refused outcomes
   pub sent : HasSent (map (entry_for old.sent.author) outcomes) old.sent new.sent lost
 

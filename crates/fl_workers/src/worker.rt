@@ -78,8 +78,8 @@ pub fn worker_loop<R: Wait, C: Counter, G: Gate, W: Write, N: WriterName>(
     requires room { HasBatchFor C.most_tolds room }
     ensures end { end.new.of ≡ intake.now }
     ensures did { HasDone C.shows end.old.taken end.new.taken
-        (standing C.worker C.count C.answered C.seen post.old.seat post.old.own)
-        (standing C.worker C.count C.answered C.seen post.new.seat post.new.own)
+        (standing C.worker C.count C.answered C.front C.stored post.old.seat post.old.own)
+        (standing C.worker C.count C.answered C.front C.stored post.new.seat post.new.own)
         result.refused result.lost }
 {
     let BatchRoom {
@@ -112,8 +112,8 @@ pub fn handle_all<R: Wait, C: Counter, G: Gate, W: Write, N: WriterName>(
     requires room { HasRoomFor C.most_tolds replies.old }
     ensures room { HasRoomFor C.most_tolds replies.new }
     ensures did { HasWorked C.shows orders.now
-        (standing C.worker C.count C.answered C.seen post.old.seat post.old.own)
-        (standing C.worker C.count C.answered C.seen post.new.seat post.new.own)
+        (standing C.worker C.count C.answered C.front C.stored post.old.seat post.old.own)
+        (standing C.worker C.count C.answered C.front C.stored post.new.seat post.new.own)
         result.refused result.lost }
 {
     for order in orders {
@@ -152,8 +152,8 @@ fn handle_next<R: Wait, C: Counter, G: Gate, W: Write, N: WriterName>(
     ensures room { HasRoomFor C.most_tolds replies.new }
     ensures some { (0 < result.0) × (result.0 ≤ length orders.now) }
     ensures did { HasWorked C.shows (take result.0 orders.now)
-        (standing C.worker C.count C.answered C.seen post.old.seat post.old.own)
-        (standing C.worker C.count C.answered C.seen post.new.seat post.new.own)
+        (standing C.worker C.count C.answered C.front C.stored post.old.seat post.old.own)
+        (standing C.worker C.count C.answered C.front C.stored post.new.seat post.new.own)
         result.1.refused result.1.lost }
 {
     let Post { seat, own } = post;
@@ -198,8 +198,8 @@ fn hand_in<R: Wait, C: Counter, G: Gate, W: Write, N: WriterName>(
     ensures room { HasRoomFor C.most_tolds replies.new }
     ensures some { (0 < result.0) × (result.0 ≤ length orders.now) }
     ensures did { HasWorked C.shows (take result.0 orders.now)
-        (standing C.worker C.count C.answered C.seen post.old.seat post.old.own)
-        (standing C.worker C.count C.answered C.seen post.new.seat post.new.own)
+        (standing C.worker C.count C.answered C.front C.stored post.old.seat post.old.own)
+        (standing C.worker C.count C.answered C.front C.stored post.new.seat post.new.own)
         result.1.refused result.1.lost }
 {
     let Post { seat, own } = post;
@@ -246,12 +246,13 @@ fn refuse<R: Wait, G: Gate, W: Write, N: WriterName>(
 fn looked<C: Counter>(counter: &C, seat: &mut C::Seat, order: &Order) -> Option<Told>
     ensures own { C.worker seat.new ≡ C.worker seat.old }
     ensures kept { (C.count seat.new ≡ C.count seat.old) × (C.answered seat.new ≡ C.answered seat.old) }
-    ensures seen { IsPrefix (C.seen seat.old) (C.seen seat.new) }
+    ensures stored { C.stored seat.new ≡ C.stored seat.old }
+    ensures front { IsPrefix (C.front seat.old) (C.front seat.new) }
     ensures reads { IsSome result → only_reads order.now.op ≡ true }
     ensures had { IfSome result (λ _.
-        IsPrefix (C.answered seat.old) (answered_by (C.worker seat.old) (C.seen seat.new))) }
+        IsPrefix (C.answered seat.old) (answered_by (C.worker seat.old) (C.front seat.new))) }
     ensures shown { IfSome result (λ told. (told.unique ≡ order.now.unique)
-        × C.shows (C.seen seat.new) order.now told.result) }
+        × C.shows (C.front seat.new) order.now told.result) }
 {
     if !order.only_reads() {
         return None;

@@ -1,12 +1,10 @@
 -- What the lines of a seat answer to each order.
 use Rattle.std.proofs.Common.{◌≡◌, ℕ, ◌<◌, ◌≤◌, ◌==◌, Bool, true, false, true≢false, List, [], ◌∷◌, ◌++◌, map}
-use Rattle.std.proofs.Common.{length, take, drop, get_or, subst, refl, sym, ap, ◌∙◌, arith, append_assoc, append-nil}
-use Rattle.std.proofs.Math.Seq.{take-length}
-use Rattle.std.proofs.lemmas.List.{take-append-drop}
+use Rattle.std.proofs.Common.{length, get_or, subst, refl, sym, ap, ◌∙◌, arith, append_assoc, append-nil}
 use Rattle.std.proofs.lemmas.Bool.Decides.{nat_tests}
 use Rattle.std.specs.Prelude.{◌↔◌, if◌then◌else◌}
 use mathlib.Core.List.{IsPrefix}
-use Rattle.fl_desk.specs.Answered.{Answered, AreAnsweredLast, IsAnsweredLast, answered, answered_by, first_tolds}
+use Rattle.fl_desk.specs.Answered.{Answered, AreAnsweredLast, AreBehind, IsAnsweredLast, answered, answered_by, first_tolds}
 use Rattle.fl_desk.specs.Legal.{step_lines}
 use Rattle.fl_history.specs.declared.history.Line.{Line}
 use Rattle.fl_history.specs.declared.history.Line.TheVariants as line
@@ -59,15 +57,9 @@ answered_last worker before now order tolds is = record {
   is = ap (answered_by worker) is ∙ answered_behind worker order tolds before;
 }
 
--- what was shown is shown still
-pub shown_still : (shown : ℕ) (lines : List Line) → IsPrefix (take shown lines) (take shown lines)
-shown_still shown lines = ([], append-nil (take shown lines))
-
--- all lines begin with what was shown
-pub all_shown : (shown now : ℕ) (lines : List Line) → now ≡ length lines
-    → IsPrefix (take shown lines) (take now lines)
-all_shown shown now lines all =
-    (drop shown lines, take-append-drop shown lines ∙ sym (take-length lines) ∙ (λ i. take (sym all i) lines))
+-- lines begin with themselves
+pub begin_themselves : (lines : List Line) → IsPrefix lines lines
+begin_themselves lines = ([], append-nil lines)
 
 -- one order more is answered last
 pub answered_more : (before mid now : List Answered) (orders : List Order) (lists : List (List Told)) (order : Order)
@@ -81,6 +73,22 @@ answered_more before mid now (first ∷ orders) [] order tolds same within at la
 answered_more before mid now [] (list ∷ lists) order tolds never within at last = absurd never
 answered_more before mid now (first ∷ orders) (list ∷ lists) order tolds taken within at last =
     (taken.0, taken.1, answered_more taken.0 mid now orders lists order tolds taken.2 (omega arith) at last)
+
+-- one order more stands behind the others
+pub behind_more : (worker : ℕ) (from mid now : List Line) (orders : List Order) (lists : List (List Told)) (order : Order)
+    (tolds : List Told) → AreBehind worker from orders lists mid → length lists < length orders
+    → order ≡ get_or orders (length lists) order → now ≡ mid ++ step_lines worker order tolds
+    → AreBehind worker from orders (lists ++ tolds ∷ []) now
+behind_more worker from mid now [] [] order tolds same within at last = absurd (omega arith)
+behind_more worker from mid now (first ∷ orders) [] order tolds same within at last =
+    (from, begin_themselves from, last ∙ (λ i. same i ++ step_lines worker (at i) tolds))
+behind_more worker from mid now [] (list ∷ lists) order tolds never within at last = absurd never
+behind_more worker from mid now (first ∷ orders) (list ∷ lists) order tolds behind within at last = (
+  behind.0,
+  behind.1,
+  behind_more worker (behind.0 ++ step_lines worker first list) mid now orders lists order tolds behind.2 (omega arith)
+      at last,
+)
 
 -- where there is no room for a list more, there is one already
 pub some_taken : (lists : List (List Told)) (free room places : ℕ) (has : Bool) → has ≡ false

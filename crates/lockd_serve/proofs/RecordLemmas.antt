@@ -18,19 +18,22 @@ legal_lines rules lines None legal = nothing
 legal_lines rules lines (Some journal) legal = legal
 
 -- what one worker recorded was served
-pub alone : {K : Type 0} (lines : K → List Line) (workers : ℕ) (rules : Rules) (streams : Streams) (broken : Bool)
+pub alone : {K : Type 0} (lines stored : K → List Line) (workers : ℕ) (rules : Rules) (streams : Streams) (broken : Bool)
     (it : Recorded K) → workers ≡ 1 → IfSome it.journal (λ k. IsLegal rules (lines k))
-    → IsServed rules streams broken (done_of lines it) → HasServed workers rules streams (done_of lines it)
-alone lines workers rules streams broken it one legal served = record {
+    → IsServed rules streams broken (done_of lines it)
+    → HasServed workers rules streams (journal_lines stored it.journal) (done_of lines it)
+alone lines stored workers rules streams broken it one legal served = record {
   legal = legal_lines rules lines it.journal legal;
   alone = λ _. (broken, served);
   several = λ more. absurd (omega (arith, one, more));
 }
 
 -- what several workers recorded was served
-pub several : {K : Type 0} (lines : K → List Line) (workers : ℕ) (rules : Rules) (streams : Streams) (it : Recorded K)
-    → 1 < workers → IsRecordedBy lines workers rules streams it → HasServed workers rules streams (done_of lines it)
-several lines workers rules streams it more is = record {
+pub several : {K : Type 0} (lines stored : K → List Line) (workers : ℕ) (rules : Rules) (streams : Streams)
+    (it : Recorded K)
+    → 1 < workers → IsRecordedBy lines stored workers rules streams it
+    → HasServed workers rules streams (journal_lines stored it.journal) (done_of lines it)
+several lines stored workers rules streams it more is = record {
   legal = legal_lines rules lines it.journal is.legal;
   alone = λ one. absurd (omega (arith, one, more));
   several = λ _. is.served;

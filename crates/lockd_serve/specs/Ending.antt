@@ -79,7 +79,8 @@ LeavesTrace (to.Writer blank) contents done out out_now it back =
 pub record IsOver {S T : Type 0} (workers : ℕ) (rules : Rules) (trace : TraceTo S) (contents : T → Option (List ℕ))
     (streams : Streams) (out out_now : Option (List ℕ)) (it : Ending) (back : Option T) : Type 0 where
   pub done : Done
-  pub served : HasServed workers rules streams done
+  pub stored : List Line
+  pub served : HasServed workers rules streams stored done
   pub traced : has_history done.fault ≡ true → LeavesTrace trace contents done out out_now it back
   pub untraced : has_history done.fault ≡ false
       → (back ≡ None) × Keeps out out_now × Ends (told_of done.fault) it
@@ -97,6 +98,7 @@ IsWhole (to.Writer blank) contents lines out out_now back =
 pub record WentWell {S T : Type 0} (workers : ℕ) (rules : Rules) (trace : TraceTo S) (contents : T → Option (List ℕ))
     (streams : Streams) (out out_now : Option (List ℕ)) (back : Option T) : Type 0 where
   pub done : Done
-  pub served : HasServed workers rules streams done
+  pub stored : List Line
+  pub served : HasServed workers rules streams stored done
   pub faultless : done.fault ≡ None
   pub whole : IsWhole trace contents done.history out out_now back

@@ -1,6 +1,7 @@
 -- What a server did with a client, with one worker or with several.
-use Rattle.std.specs.Prelude.{◌≡◌, ℕ, ◌<◌, Bool}
+use Rattle.std.specs.Prelude.{◌≡◌, ℕ, ◌<◌, Bool, List}
 use Rattle.fl_desk.specs.Legal.{IsLegal}
+use Rattle.fl_history.specs.declared.history.Line.{Line}
 use Rattle.fl_serve.specs.Serve.{IsServedBy}
 use Rattle.fl_session.specs.Served.{IsServed}
 use Rattle.fl_session.specs.declared.done.Done.{Done}
@@ -13,8 +14,9 @@ abbrev pub HasServedAlone : Rules → Streams → Done → Type 0
 HasServedAlone rules streams done = (broken : Bool) × IsServed rules streams broken done
 
 -- So many workers served what was read, by orders that wait under these rules. The history is legal, one worker did
--- what `IsServed` says, and several did what `IsServedBy` says.
-pub record HasServed (workers : ℕ) (rules : Rules) (streams : Streams) (done : Done) : Type 0 where
+-- what `IsServed` says, and several did what `IsServedBy` says, of the lines that are stored.
+pub record HasServed (workers : ℕ) (rules : Rules) (streams : Streams) (stored : List Line) (done : Done)
+    : Type 0 where
   pub legal : IsLegal rules done.history
   pub alone : workers ≡ 1 → HasServedAlone rules streams done
-  pub several : 1 < workers → IsServedBy workers rules streams done
+  pub several : 1 < workers → IsServedBy workers rules streams stored done

@@ -2,7 +2,7 @@
 
 ghost use Rattle.std.specs.Prelude.{◌≡◌, ◌≢◌, ◌≤◌, ◌<◌, [], true, false, None, Some, MatchOption};
 ghost use Rattle.std.specs.Io.KnownBytes.{Keeps};
-ghost use Rattle.fl_session.specs.Recorded.{done_of};
+ghost use Rattle.fl_session.specs.Recorded.{done_of, journal_lines};
 ghost use Rattle.fl_stream.specs.Streams.{IsBlank};
 ghost use Rattle.fl_transport.specs.declared.fault.Fault.{Fault as SessionFault};
 ghost use Rattle.lockd_faults.specs.declared.fault.CommandFault.{CommandFault};
@@ -150,7 +150,7 @@ where
       left_now = I.remaining r.new;
       held = C.contents w.old;
       held_now = C.contents w.new;
-    }) (done_of J.lines result) }
+    }) (journal_lines J.stored result.journal) (done_of J.lines result) }
     ensures back { MatchOption result.journal (has_history result.fault ≡ false)
         (λ _. has_history result.fault ≡ true) }
     ensures unread { result.fault ≡ Some SessionFault.NoMemory → Keeps (I.remaining r.old) (I.remaining r.new) }

@@ -1,8 +1,10 @@
 -- The result of a session once its board is closed.
 use Rattle.std.specs.Prelude.{◌≡◌, ℕ, ◌+◌, Bool, true, List, [], ◌∷◌, ◌++◌, All, length, Option, map, sum_by}
+use mathlib.Core.List.{IsPrefix}
 use Rattle.fl_board.specs.Seats.{Place}
 use Rattle.fl_board.specs.Shown.{HasAllOf}
 use Rattle.fl_desk.specs.Legal.{orders_asked}
+use Rattle.fl_history.specs.declared.history.Line.{Line}
 use Rattle.fl_log.specs.Appended.{Appended, HasAll as HasAllEntries}
 use Rattle.fl_log.specs.Growing.{Grows}
 use Rattle.fl_session.specs.declared.done.Done.{Done}
@@ -14,11 +16,14 @@ use Rattle.fl_workers.specs.Sent.{entries_of, spelled}
 use Rattle.fl_workers.specs.declared.entry.ReplyEntry.{ReplyEntry}
 use Rattle.fl_transport.specs.declared.fault.Fault.{Fault}
 
--- The result of a session: its history has all that was handed in at these places, and no other order.
-pub record HasAll (places : List Place) (refused : Bool) (fault : Option Fault) (done : Done) : Type 0 where
+-- The result of a session: its history has all that was handed in at these places, and no other order. What is stored
+-- begins with what is stored at each place.
+pub record HasAll (places : List Place) (refused : Bool) (fault : Option Fault) (stored : List Line) (done : Done)
+    : Type 0 where
   pub told : done.fault ≡ fault
   pub tells : done.refused ≡ refused
   pub each : All (HasAllOf done.history) places
+  pub kept : All (λ place. IsPrefix place.stored stored) places
   pub counted : orders_asked done.history ≡ sum_by (λ place. place.count) places
 
 -- what is said last, if anything is

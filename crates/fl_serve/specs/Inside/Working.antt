@@ -3,7 +3,7 @@ use Rattle.std.specs.Prelude.{◌≡◌, ◌≢◌, ℕ, Bool, false, List, [], 
 use Rattle.std.specs.Prelude.{sum_by}
 use Rattle.std.specs.Io.KnownBytes.{Keeps}
 use Rattle.atomic_table.specs.Seated.{TableId}
-use Rattle.fl_board.specs.Seats.{Place}
+use Rattle.fl_board.specs.Seats.{Place, front_of}
 use Rattle.fl_desk.specs.Answered.{IsAnsweredAfter, answered_by}
 use Rattle.fl_desk.specs.Asked.{Orders}
 use Rattle.fl_intake.specs.Ends.{TakeSide, weight_taken}
@@ -20,6 +20,10 @@ use Rattle.fl_workers.specs.declared.entry.ReplyEntry.{ReplyEntry}
 abbrev pub IsFresh : TableId → TakeSide → Type 0
 IsFresh of end = (end.of ≡ of) × (end.taken ≡ [])
 
+-- nothing was handed in, shown or stored at this place
+abbrev pub IsUnused : Place → Type 0
+IsUnused place = (place.count ≡ 0) × (place.own ≡ []) × (place.seen ≡ []) × (place.stored ≡ [])
+
 -- where a worker stands, by its place at the board and what it gave to be sent
 abbrev pub standing_at : Place → Appended ReplyEntry → Standing
 standing_at place sent =
@@ -27,7 +31,8 @@ standing_at place sent =
       worker = place.worker;
       count = place.count;
       answered = answered_by place.worker place.own;
-      seen = place.seen;
+      front = front_of place;
+      stored = place.stored;
       sent = sent;
     }
 
@@ -38,7 +43,8 @@ idle worker =
       worker = worker;
       count = 0;
       answered = [];
-      seen = [];
+      front = [];
+      stored = [];
       sent = record { author = worker; count = 0; own = [] };
     }
 

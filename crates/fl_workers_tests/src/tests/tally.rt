@@ -1,7 +1,6 @@
 //! A counter in memory, whose seats keep what is handed in at them.
 
-ghost use Rattle.std.specs.Prelude.{◌≡◌, ◌≤◌, ◌+◌, ◌++◌, [], length, take, OnErr, OnOk};
-ghost use Rattle.fl_desk.specs.Answered.{IsAnsweredLast, answered_by};
+ghost use Rattle.std.specs.Prelude.{◌≡◌, ◌≤◌, ◌+◌, ◌++◌, [], length, OnErr, OnOk};
 ghost use Rattle.fl_desk.specs.Legal.{step_lines};
 
 use super::came::Came;
@@ -74,11 +73,9 @@ pub(super) struct Seat {
     pub looks: Vec<u64>,
     tries: u64,
     core: Core,
-    // The orders with what they were answered, and how many of these lines there were at the last look.
+    // The orders with what they were answered. A look shows them all.
     lines: Lines,
-    shown: usize,
     ghost parked: { core.rules.parked ≡ 256 },
-    ghost had: { shown ≤ length lines.items },
 }
 
 impl Seat {
@@ -94,7 +91,6 @@ impl Seat {
             tries: 0,
             core: Core::new(alloc, Rules::standard()).expect(rt, "memory"),
             lines: Lines::new(alloc),
-            shown: 0,
         }
     }
 
@@ -115,7 +111,6 @@ impl Seat {
     }
 
     // Takes an order, or refuses it if it is one that is to be refused.
-    #[tactic(auto, using(crate::proofs::SeatLemmas::answered_last))]
     fn hand_in(
         &mut self,
         refuses: Refuses,
@@ -124,11 +119,9 @@ impl Seat {
     ) -> Result<(), HandFault>
         requires { 257 ≤ tolds.old.room }
         ensures room { tolds.new.room ≡ tolds.old.room }
-        ensures same { (self.new.worker ≡ self.old.worker) × (self.new.shown ≡ self.old.shown) }
-        ensures seen { take self.new.shown self.new.lines.items ≡ take self.old.shown self.old.lines.items }
+        ensures same { self.new.worker ≡ self.old.worker }
         ensures taken { OnOk result ((length self.new.orders.items ≡ length self.old.orders.items + 1)
-            × IsAnsweredLast (answered_by self.old.worker self.old.lines.items) order.now tolds.new.told
-            (answered_by self.old.worker self.new.lines.items)) }
+            × (self.new.lines.items ≡ self.old.lines.items ++ step_lines self.old.worker order.now tolds.new.told)) }
         ensures fits { OnOk result (length tolds.new.told ≤ 257) }
         ensures refused { OnErr result ((length self.new.orders.items ≡ length self.old.orders.items)
             × (self.new.lines.items ≡ self.old.lines.items)) }
@@ -163,7 +156,7 @@ fn append(lines: &mut Lines, worker: u32, order: &Order, tolds: &[Told])
 }
 
 impl Counter for Tally {
-    ghost use Rattle.std.specs.Prelude.{length, take};
+    ghost use Rattle.std.specs.Prelude.{length};
     ghost use Rattle.fl_desk.specs.Answered.{answered_by};
 
     type Seat = Seat;
@@ -174,7 +167,9 @@ impl Counter for Tally {
 
     ghost answered = { λ seat. answered_by seat.worker seat.lines.items };
 
-    ghost seen = { λ seat. take seat.shown seat.lines.items };
+    ghost front = { λ seat. seat.lines.items };
+
+    ghost stored = { λ seat. seat.lines.items };
 
     ghost shows = { λ lines order result. Unit {0} };
 
@@ -203,14 +198,12 @@ impl Counter for Tally {
         Ok(())
     }
 
-    #[tactic(auto, using(crate::proofs::SeatLemmas::shown_still, crate::proofs::SeatLemmas::all_shown))]
+    #[tactic(auto, using(crate::proofs::SeatLemmas::begin_themselves))]
     fn look(&self, seat: &mut Seat, order: &Order) -> Result<Result<Answer, Errno>, NoView> {
         if !self.shows || seat.looks.push(order.unique).is_err() {
             return Err(NoView);
         }
-        let answer = seat.core.answer(order).ok_or(NoView)?;
-        seat.shown = seat.lines.len();
-        Ok(answer)
+        seat.core.answer(order).ok_or(NoView)
     }
 
     fn pause<R: Wait>(&self, _rt: &R) {}

@@ -21,10 +21,10 @@ returns-clause-served g c left left_now received =
     (sym c.or-failures.ensures.1) did in
     let both = subst (λ (b : Bool). HaveDone rules orders seats sent b failed.lost) (sym c.or-failures.ensures.0) lost in
     served_by rules c.args.received.put.takers _ g.N.WriterName.start _ c.say_goodbye-writer.result.1 sent seats orders
-    failed.refused failed.lost c.say_goodbye-writer.result.2 c.told-told.result _ received refl both
+    failed.refused failed.lost c.say_goodbye-writer.result.2 c.told-told.result _ _ received refl both
     c.say_goodbye-writer.ensures.given c.in-Ok.ensures.left (c.handed_in-seats.ensures.whose ∙ c.requires.whose)
     c.told-told.ensures.ends
-    (closed_as g.J.Journal.lines seats _ failed.refused c.told-told.result c.close_board-recorded.result
+    (closed_as g.J.Journal.lines _ seats _ failed.refused c.told-told.result c.close_board-recorded.result
     c.close_board-recorded.ensures.told)
 
 pub returns-clause-untold : goal.returns-clause-untold

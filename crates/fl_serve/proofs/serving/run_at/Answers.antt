@@ -9,7 +9,7 @@ use Rattle.fl_workers.specs.declared.entry.ReplyEntry.{ReplyEntry}
 use Rattle.fl_serve.proofs.serving.run_at.Goals as goal
 
 pub returns-in-Err-clause-recorded : goal.returns-in-Err-clause-recorded
-returns-in-Err-clause-recorded g c = none_recorded _ _ _ _ [] false _ (c.nothing.ensures.journal, c.nothing.ensures.refused)
+returns-in-Err-clause-recorded g c = none_recorded _ _ _ _ _ [] false _ (c.nothing.ensures.journal, c.nothing.ensures.refused)
     (⊎_elim (λ m. inl (c.nothing.ensures.fault ∙ ap Some m.1, refl)) (λ r. inr (c.nothing.ensures.fault ∙ ap Some r.1)) c.unopened.ensures)
     (c.nothing.ensures.read _ _ (Keeps-refl _)) (nothing_given _) (Keeps-refl _) (λ _. Keeps-refl _)
 
@@ -22,7 +22,7 @@ at-posts-requires-clause-rest g c =
 pub at-posts-requires-clause-room : goal.at-posts-requires-clause-room
 at-posts-requires-clause-room g c =
     let many = as_many _ _ c.in-Ok.ensures.seats in
-    let room = c.in-Ok.ensures.room in (
+    let room = c.in-Ok.ensures.stock.room in (
       omega (arith, many, room.0),
       omega (arith, many, room.1),
       omega (arith, many, room.2),
@@ -39,7 +39,7 @@ appender-own-requires-clause-rest g c =
 
 pub run_pool-requires-clause-parts : goal.run_pool-requires-clause-parts
 run_pool-requires-clause-parts g c _ _ =
-    let takers = c.in-Ok.ensures.put.1 in (
+    let takers = c.in-Ok.ensures.stock.takers in (
       c.requires.parts.1,
       omega (arith, takers, c.requires.sending.2),
       omega (arith, takers, c.requires.workers.0),
@@ -48,21 +48,22 @@ run_pool-requires-clause-parts g c _ _ =
 pub run_pool-requires-clause-seats : goal.run_pool-requires-clause-seats
 run_pool-requires-clause-seats g c _ _ =
     workers_of (λ post. post.seat) _ _ c.at-posts.ensures.seats ∙ c.in-Ok.ensures.seats
-    ∙ sym (ap (range_with_len 0) c.in-Ok.ensures.put.1)
+    ∙ sym (ap (range_with_len 0) c.in-Ok.ensures.stock.takers)
 
-pub run_pool-requires-clause-ends : goal.run_pool-requires-clause-ends
-run_pool-requires-clause-ends g c _ _ =
-    subst (All (IsFresh c.in-Ok.made.2.intake)) (sym c.at-posts.ensures.ends) c.in-Ok.ensures.ends
-
-pub run_pool-requires-clause-batches : goal.run_pool-requires-clause-batches
-run_pool-requires-clause-batches g c _ _ =
-    subst (All (HasBatchFor (g.L.BoardName.rules.parked + 1))) (sym c.at-posts.ensures.rooms) c.in-Ok.ensures.batches
+pub run_pool-requires-clause-can : goal.run_pool-requires-clause-can
+run_pool-requires-clause-can g c _ _ =
+    let can = c.in-Ok.ensures.stock.can in record {
+      unread = can.unread;
+      put = can.put;
+      ends = subst (All (IsFresh c.in-Ok.made.2.intake)) (sym c.at-posts.ensures.ends) can.ends;
+      rooms = subst (All (HasBatchFor (g.L.BoardName.rules.parked + 1))) (sym c.at-posts.ensures.rooms) can.rooms;
+    }
 
 pub run_pool-requires-clause-own : goal.run_pool-requires-clause-own
 run_pool-requires-clause-own g c _ _ =
     let by : ℕ → Appended ReplyEntry = λ author. record { author = author; count = 0; own = [] } in
-    c.appender-own.ensures.fresh ∙ sym (ap by c.in-Ok.ensures.put.1)
+    c.appender-own.ensures.fresh ∙ sym (ap by c.in-Ok.ensures.stock.takers)
 
 pub returns-clause-recorded : goal.returns-clause-recorded
 returns-clause-recorded g c =
-    recorded_from _ _ _ _ _ _ _ _ _ _ _ c.in-Ok.ensures.put.1 c.requires.rules c.requires.start c.run_pool.ensures.recorded
+    recorded_from _ _ _ _ _ _ _ _ _ _ _ _ c.in-Ok.ensures.stock.takers c.requires.rules c.requires.start c.run_pool.ensures.recorded

@@ -10,7 +10,7 @@ returns-then-eq-clause-recorded g c =
     let none : c.run-back.result.1.fault ≡ Some NoMemory = search rules in
     let unread = c.run-back.ensures.ran.unread none in
     let it = c.unstarted.ensures in
-    unstarted_recorded _ _ _ _ _ _ _ c.into_inner.result.log it.sent.0 _ it.nothing it.fault (it.read _ _ unread) it.sent.1
+    unstarted_recorded _ _ _ _ _ _ _ _ c.into_inner.result.log it.sent.0 _ it.nothing it.fault (it.read _ _ unread) it.sent.1
     unread it.unwritten
 
 pub finish-requires-clause-all : goal.finish-requires-clause-all
@@ -54,5 +54,5 @@ returns-clause-recorded g c =
     let takers = c.run-back.ensures.ran.put.1 in
     let received = received_by _ _ _ _ _ _ _ _ _ _ c.requires.own takers (c.run-back.ensures.ran.received some) in
     let done = c.finish.ensures in
-    all_recorded _ _ _ _ _ _ _ _ takers refl refl done.legal (done.served _ _ received) done.back (done.memory some)
+    all_recorded _ _ _ _ _ _ _ _ _ takers refl refl done.legal (done.served _ _ received) done.back (done.memory some)
     (done.untold _ _ received)

@@ -18,12 +18,12 @@ pub returns-in-Ok-clause-did : goal.returns-in-Ok-clause-did
 returns-in-Ok-clause-did g c =
     let taken = c.hand_in_all-result.ensures in
     rw c.count-handed.ensures
-    (lists_handed g.C.Counter.shows c.args.orders.now c.hand_in_all-result.new.lists.lists _ _ _ taken.own taken.seen
-    taken.count taken.taken c.give_lists-lost.ensures)
+    (lists_handed g.C.Counter.shows c.args.orders.now c.hand_in_all-result.new.lists.lists _ _ _ taken.own taken.count
+    taken.taken taken.behind taken.stored taken.no_more c.give_lists-lost.ensures)
 
 pub returns-in-Err-clause-did : goal.returns-in-Err-clause-did
 returns-in-Err-clause-did g c =
-    let there = standing g.C.Counter.worker g.C.Counter.count g.C.Counter.answered g.C.Counter.seen in
+    let there = standing g.C.Counter.worker g.C.Counter.count g.C.Counter.answered g.C.Counter.front g.C.Counter.stored in
     let taken = c.hand_in_all-result.ensures in
     let orders = c.args.orders.now in
     let lists = c.hand_in_all-result.new.lists.lists in
@@ -35,10 +35,10 @@ returns-in-Err-clause-did g c =
     let any = c.or.result.refused in
     let all_lost = c.or.result.lost in
     let first = rw (← c.count-handed.ensures) at
-    (lists_handed g.C.Counter.shows orders lists p q lost taken.own taken.seen taken.count taken.taken
-    c.give_lists-lost.ensures) in
+    (lists_handed g.C.Counter.shows orders lists p q lost taken.own taken.count taken.taken taken.behind taken.stored
+    taken.no_more c.give_lists-lost.ensures) in
     let second = one_refused g.C.Counter.shows order q r c.refuse-more.result.refused c.refuse-more.result.lost
-    c.refuse-more.ensures.refused refl (refl, refl) refl c.refuse-more.ensures.sent in
+    c.refuse-more.ensures.refused refl (refl, refl) refl refl c.refuse-more.ensures.sent in
     let P : Orders → Type 0 = λ done. HasWorked g.C.Counter.shows done p r any all_lost in
     subst P (sym (take_read orders c.count-handed.result order (search rules) c.index-orders-handed.is))
     (then_worked g.C.Counter.shows (take c.count-handed.result orders) (order ∷ []) p q r _ _ any lost _ all_lost

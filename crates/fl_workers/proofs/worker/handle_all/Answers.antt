@@ -15,7 +15,7 @@ loop-done-init g c = record {
 
 pub loop-done-preserved : goal.loop-done-preserved
 loop-done-preserved g c =
-    let there = standing g.C.Counter.worker g.C.Counter.count g.C.Counter.answered g.C.Counter.seen in
+    let there = standing g.C.Counter.worker g.C.Counter.count g.C.Counter.answered g.C.Counter.front g.C.Counter.stored in
     let orders = c.args.orders.now in
     let done = c.loop-done.done in
     let handled = c.handle_next-handled.result.0 in
@@ -37,7 +37,7 @@ loop-done-preserved g c =
 
 pub returns-clause-did : goal.returns-clause-did
 returns-clause-did g c =
-    let there = standing g.C.Counter.worker g.C.Counter.count g.C.Counter.answered g.C.Counter.seen in
+    let there = standing g.C.Counter.worker g.C.Counter.count g.C.Counter.answered g.C.Counter.front g.C.Counter.stored in
     let so_far = c.loop-done in
     let P : Orders → Type 0 = λ l. HasWorked g.C.Counter.shows l (there c.args.post.now.seat c.args.post.now.own)
     (there so_far.post.seat so_far.post.own) so_far.failures.refused so_far.failures.lost in

@@ -7,7 +7,7 @@ use Rattle.fl_workers.proofs.worker.handle_all.Given as goal
 -- there is room for the replies of any order, and the orders so far were handled
 abbrev pub invariant-loop-done : goal.invariant-loop-done
 invariant-loop-done g l =
-    let there = standing g.C.Counter.worker g.C.Counter.count g.C.Counter.answered g.C.Counter.seen in record {
+    let there = standing g.C.Counter.worker g.C.Counter.count g.C.Counter.answered g.C.Counter.front g.C.Counter.stored in record {
       within : l.done ≤ length l.orders;
       room : HasRoomFor g.C.Counter.most_tolds l.replies;
       worked : HasWorked g.C.Counter.shows (take l.done l.orders) (there l.fn.post.seat l.fn.post.own)

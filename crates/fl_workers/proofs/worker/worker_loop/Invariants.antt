@@ -7,7 +7,7 @@ use Rattle.fl_workers.proofs.worker.worker_loop.Given as goal
 -- the end is this intake's, there is room for a batch and the replies to it, and what the end took so far was handled
 abbrev pub invariant-loop : goal.invariant-loop
 invariant-loop g l =
-    let there = standing g.C.Counter.worker g.C.Counter.count g.C.Counter.answered g.C.Counter.seen in record {
+    let there = standing g.C.Counter.worker g.C.Counter.count g.C.Counter.answered g.C.Counter.front g.C.Counter.stored in record {
       end : l.end.of ≡ l.intake;
       batch : 0 < vec_capacity l.batch;
       room : HasRoomFor g.C.Counter.most_tolds l.replies;

@@ -5,10 +5,10 @@ use Rattle.lockd_serve.proofs.serving.record.Goals as goal
 pub returns-then-staff-eq1-clause-served : goal.returns-then-staff-eq1-clause-served
 returns-then-staff-eq1-clause-served g c =
     let did = c.record_session-recorded in
-    alone g.J.Journal.lines c.args.staff.workers c.args.staff.rules _ did.result.1 did.result.0 c.if-staff-eq1.true
+    alone g.J.Journal.lines g.J.Journal.stored c.args.staff.workers c.args.staff.rules _ did.result.1 did.result.0 c.if-staff-eq1.true
     did.ensures.legal did.ensures.served
 
 pub returns-clause-served : goal.returns-clause-served
 returns-clause-served g c =
-    several g.J.Journal.lines c.args.staff.workers c.args.staff.rules _ c.record_with_workers.result
+    several g.J.Journal.lines g.J.Journal.stored c.args.staff.workers c.args.staff.rules _ c.record_with_workers.result
     (omega (arith, c.requires.workers, c.if-staff-eq1.false)) c.record_with_workers.ensures

@@ -1,7 +1,6 @@
 use Rattle.std.proofs.Common.{rules, ◌≡◌, [], All, arith, length, length-append, ◌∷◌, ap, ◌∙◌, subst, sym, refl}
-use Rattle.fl_board.specs.Seats.{Place}
 use Rattle.fl_log.specs.Appended.{Appended}
-use Rattle.fl_serve.specs.Inside.Working.{IsIdle}
+use Rattle.fl_serve.specs.Inside.Working.{IsIdle, IsUnused}
 use Rattle.fl_serve.proofs.PostLemmas.{all_pushed, first_and_rest, idle_at, seats_move}
 use Rattle.fl_serve.proofs.posts.Posts.at.Goals as goal
 use Rattle.fl_workers.specs.declared.entry.ReplyEntry.{ReplyEntry}
@@ -12,7 +11,7 @@ loop-seat-preserved g c =
     let steps = c.in-Some.ensures.steps.0 in
     let items = c.push_reserved.ensures.items in
     let seat = c.in-Some.seat in
-    let both = first_and_rest (λ (p : Place). (p.count ≡ 0) × (p.own ≡ []) × (p.seen ≡ [])) _ _ seat steps i.4 in
+    let both = first_and_rest IsUnused _ _ seat steps i.4 in
     let named = subst (λ w. c.appender-own.result ≡ record { author = w; count = 0; own = [] }) c.worker.ensures
     c.appender-own.ensures.fresh in
     let more = ap length items ∙ length-append c.loop-seat.posts.items (_ ∷ []) in (
