@@ -328,7 +328,7 @@ class Stepped:
                 step(STEP, self.pid, 0, 0)
                 os.waitpid(self.pid, 0)
             count += 32
-        assert count < most, f"more than {most}"
+        assert count < most, f"messages of opcode {fuse.opcode_of(messages[0])} took more than {most} instructions"
         self.came(messages)
         return count
 
