@@ -12,7 +12,7 @@ import time
 
 from tests import fuse
 from tests import tries
-from tests.model import LAST, READ, UNLOCK, WRITE, Model, firsts_of, order_of
+from tests.model import LAST, READ, RECORD, UNLOCK, WRITE, Lock, Model, firsts_of, order_of
 from tests.tries import fails_to_read, fills_up, run
 
 HEADINGS = "TYPE", "MODE", "START", "END", "PID", "OWNER", "UNIQUE", "BLOCKER", "FILE"
@@ -204,13 +204,28 @@ def try_nothing():
     assert lists(b"") == "TYPE MODE START END PID OWNER UNIQUE BLOCKER FILE\n" and lists(b"", "--json") == "[]\n"
 
 
-def try_256_that_wait():
-    asks = "".join(f"ask 0 {it} 2 0 0 0 setlkw 1 {it} 0 0 1 {it} 0\n" for it in range(1_000, 1_256))
+def waiting_on_a_byte(count, *rules):
+    """So many requests wait for a lock of one byte. Both forms have each of them, and those in its way: who holds the byte, and by `--fair` all older ones."""
+    uniques = range(1_000, 1_000 + count)
+    asks = "".join(f"ask 0 {it} 2 0 0 0 setlkw 1 {it} 0 0 1 {it} 0\n" for it in uniques)
     script = "ask 0 1 1 0 0 0 create 0 420 61\nask 0 2 2 0 0 0 setlk 1 7 0 0 1 11 0\n" + asks
-    for rules, last in ([], ["7"]), (["--fair"], ["7", *map(str, range(1_000, 1_255))]):
-        found = json.loads(lists(traced(script, *rules).encode(), *rules, "--json"))
-        assert [it["unique"] for it in found] == [None, *range(1_000, 1_256)]
-        assert [str(it["owner"]) for it in found[-1]["blockers"]] == last
+    named, in_the_way = Model([0]), [(7, 11), *((it, it) for it in uniques)]
+    named.names[2] = "61"
+    rows = [Row(Lock(2, RECORD, 0, 7, 0, WRITE, 11), None, [])]
+    rows += [Row(Lock(2, RECORD, 0, it, 0, WRITE, it), it, in_the_way[:1 + older * ("--fair" in rules)]) for older, it in enumerate(uniques)]
+    trace = traced(script, *rules).encode()
+    assert lists(trace, *rules) == table(named, rows), rules
+    assert lists(trace, *rules, "--json") == line_of(objects(named, rows)), rules
+
+
+def try_256_that_wait():
+    for rules in [], ["--fair"]:
+        waiting_on_a_byte(256, *rules)
+
+
+def try_1024_that_wait():
+    """As many as may wait by any rule. By `--fair` three seconds would go by."""
+    waiting_on_a_byte(1_024, "--parked", "1024")
 
 
 def try_traces_that_are_not_legal():

@@ -1,18 +1,25 @@
-"""Tries the built `lockd` where the system has no more to give: open files, threads, letters of a path, room of an output; and with a
-client that doesn't read.
+"""Tries the built `lockd` where the system has no more to give: open files, threads, letters of a path, room of an output; with a client that
+doesn't read; and with almost as many files as there can be.
 
 Each function `try_..` is one thing that is tried. `tries.py` says how it ends.
 """
+import ctypes
+import fcntl
+import itertools
 import os
 import resource
 import shutil
+import struct
 import subprocess
 import sys
 import tempfile
+import termios
 import threading
 import time
 
+from tests import fuse
 from tests import tries
+from tests.serve import kit
 from tests.tries import CREATE, INIT, PATIENCE, PROGRAM, Server, judged, replies, run, setlk, take
 
 SCRIPT = b"ask 0 1 1 0 0 0 create 0 420 61\n"
@@ -126,6 +133,22 @@ def try_an_output_that_is_closed_meanwhile():
     assert server.ended()[1:] == ("write failed\n", 2)
 
 
+def try_a_version_that_is_not_written():
+    """A part of the line fits, nobody reads it, or the output is closed from the start."""
+    line = run("--version").stdout
+    assert line.startswith(b"lockd ") and line.endswith(b"\n"), line
+    for option in "--version", "-V":
+        for left in range(len(line)):
+            assert tries.fills_up(option, text=b"", left=left) == (b"write failed\n", 2), (option, left)
+        assert tries.fills_up(option, text=b"", left=len(line)) == (b"", 0), option
+        ours, theirs = os.pipe()
+        os.close(ours)
+        for how in {"stdout": theirs}, {"preexec_fn": lambda: os.close(1)}:
+            ran = subprocess.run([PROGRAM, option], stderr=subprocess.PIPE, timeout=PATIENCE, **how)
+            assert (ran.stderr, ran.returncode) == (b"write failed\n", 2), (option, how, ran)
+        os.close(theirs)
+
+
 def try_a_closed_output():
     server = Server(printed=None, before=lambda: os.close(1))
     server.session(100)
@@ -206,6 +229,131 @@ def try_nobody_reads_and_no_trace_is_kept():
         server, _, grown = unread(100_000, "--trace", "none", workers=workers)
         assert grown < 2 << 20, grown
         assert server.ended() == (b"", "", 0)
+
+
+# ---- many files
+
+# By ptrace(2), a process goes on by one instruction, or is stopped so that it can be led.
+STEP, ATTACH, DETACH = 9, 16, 17
+LIBC = ctypes.CDLL(None, use_errno=True)
+LIBC.ptrace.argtypes, LIBC.ptrace.restype = [ctypes.c_long] * 4, ctypes.c_long
+
+# How long replies are that have more than a header. A FORGET gets none.
+SIZES = {fuse.LOOKUP: fuse.ENTRY_SIZE, fuse.GETATTR: fuse.ATTR_SIZE, fuse.OPEN: fuse.OPEN_SIZE, fuse.CREATE: fuse.CREATE_SIZE, fuse.FORGET: 0}
+
+
+def size_of(messages):
+    """How long their replies are."""
+    return sum(SIZES.get(fuse.opcode_of(it), fuse.BARE_SIZE) for it in messages)
+
+
+class Stepped:
+    """A server with so many files, each open and locked, whose instructions are counted: it makes one, and waits. Files and open files get numbers in
+    turn, so each is known before. One file is asked for far from the next."""
+
+    def __init__(self, count):
+        self.count, self.file, self.node, self.fh, self.uniques = count, 0, 2 + count, 1 + count, itertools.count(2)
+        self.server = Server("--trace", "none", "--files", "65536", "--open", "65536", "--runs", "65536")
+        self.pid = self.server.serving.pid
+        self.client = self.server.connect()
+        self.client.sendall(INIT)
+        take(self.client, fuse.INIT_SIZE)
+        for first in range(0, count, 400):
+            files = range(first, min(first + 400, count))
+            self.ask([self.create(it) for it in files])
+            self.ask([self.lock(2 + it, 1 + it, 7, 0) for it in files])
+
+    def create(self, file):
+        return fuse.create(next(self.uniques), b"%d" % file)
+
+    def lock(self, node, fh, owner, first):
+        return fuse.lock(fuse.SETLK, next(self.uniques), owner, first, first + 9, fuse.WRITE_LOCK, node, fh)
+
+    def some(self, count):
+        for _ in range(count):
+            self.file = (self.file + 7_919) % self.count
+            yield self.file
+
+    def opened(self):
+        self.fh += 1
+        return self.fh - 1
+
+    def lookups(self):
+        return [fuse.lookup(next(self.uniques), b"%d" % it) for it in self.some(20)]
+
+    def getattrs(self):
+        return [fuse.getattr_(next(self.uniques), 2 + it) for it in self.some(20)]
+
+    def opens(self):
+        return [it for file in self.some(10) for it in (fuse.open_(next(self.uniques), 2 + file), fuse.release(next(self.uniques), 2 + file, self.opened()))]
+
+    def locks(self):
+        return [it for file in self.some(10)
+                for it in (self.lock(2 + file, 1 + file, 8, 20), fuse.flush(next(self.uniques), 2 + file, 1 + file, 8))]
+
+    def creates(self):
+        found = []
+        for file in range(self.count, self.count + 5):
+            fh, name = self.opened(), b"%d" % file
+            found += [self.create(file), self.lock(self.node, fh, 7, 0), fuse.release(next(self.uniques), self.node, fh),
+                      fuse.unlink(next(self.uniques), name), fuse.forget(next(self.uniques), self.node)]
+            self.node += 1
+        return found
+
+    def ask(self, messages):
+        """All are answered well."""
+        self.client.sendall(b"".join(messages))
+        self.came(messages)
+
+    def came(self, messages):
+        wrong = [it for it in replies(take(self.client, size_of(messages))) if it[1]]
+        assert not wrong, wrong
+
+    def trace(self, request):
+        if LIBC.ptrace(request, self.pid, 0, 0):
+            raise OSError(ctypes.get_errno(), os.strerror(ctypes.get_errno()))
+
+    def begin(self):
+        """It sleeps in a read of the socket, and makes no more instructions but those that are counted."""
+        tries.wait_until(lambda: kit.is_reading(self.server))
+        self.trace(ATTACH)
+        os.waitpid(self.pid, 0)
+
+    def instructions(self, messages, most):
+        """How many it makes until all replies to these messages are at hand, give or take 32, or that there are more than this."""
+        count, step, size = 0, LIBC.ptrace, size_of(messages)
+        self.client.sendall(b"".join(messages))
+        while count < most and struct.unpack("<i", fcntl.ioctl(self.client, termios.FIONREAD, bytes(4)))[0] < size:
+            for _ in range(32):
+                step(STEP, self.pid, 0, 0)
+                os.waitpid(self.pid, 0)
+            count += 32
+        assert count < most, f"messages of opcode {fuse.opcode_of(messages[0])} took more than {most} instructions"
+        self.came(messages)
+        return count
+
+    def end(self):
+        self.trace(DETACH)
+        self.client.close()
+        assert self.server.ended() == (b"", "", 0)
+
+
+def try_orders_on_60000_files():
+    """They take as many instructions as on 16, or half as many more at most: what an order looks through doesn't grow with the number of files. Unlike
+    times, that is so on any machine."""
+    few, many = Stepped(16), Stepped(60_000)
+    try:
+        few.begin()
+        many.begin()
+    except OSError as error:
+        return f"not tried: no process can be traced here: {error}"
+    said = []
+    for kind in Stepped.lookups, Stepped.getattrs, Stepped.opens, Stepped.locks, Stepped.creates:
+        least = few.instructions(kind(few), 1 << 20)
+        said.append(f"{kind.__name__} {many.instructions(kind(many), 3 * least // 2) / least:.2f}")
+    few.end()
+    many.end()
+    return ", ".join(said)
 
 
 if __name__ == "__main__":

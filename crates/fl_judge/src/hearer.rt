@@ -9,8 +9,8 @@ use crate::judge::Judge;
 use fl_history::{Line, Recent};
 use std::marker::Model;
 
-/// A judge, the last lines that it heard, if these are kept, and the line behind them, if it is bad. Contracts see the judge's rules and lines, and whether
-/// the last are kept.
+/// A judge, the last lines that it heard, if these are kept, and the line behind them, if it is bad. Contracts see the
+/// judge's rules and lines, and whether the last are kept.
 #[derive(Drop)]
 pub(crate) struct Hearer {
     judge: Judge,
