@@ -3,10 +3,10 @@ PREFIX = /usr/local
 CRATE =
 
 .PHONY: all help try demo quick check test install uninstall deb
-all: ## proves and builds lockd, and builds the mount: half an hour from nothing
+all: ## builds the mount, and proves and builds lockd: half an hour from nothing
 	@dev/needs build
-	@dev/build
 	@programs/mount/build
+	@dev/build
 
 help: ## prints this list
 	@sed -n 's/^\([a-z]*\): ## \(.*\)/make \1|\2/p' Makefile | awk -F '|' '{ printf "%-16s%s\n", $$1, $$2 }'
@@ -24,6 +24,7 @@ quick: ## tries the whole tree with no proof: minutes
 	dev/quick
 
 check: ## proves one crate, its tests and its edits: make check CRATE=fl_dir
+	@dev/needs build
 	dev/check $(CRATE)
 
 test: ## the whole gate: an hour and more
