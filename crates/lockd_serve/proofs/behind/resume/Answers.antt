@@ -11,9 +11,10 @@ use Rattle.lockd_serve.proofs.behind.resume.Goals as goal
 pub returns-clause-resumed : goal.returns-clause-resumed
 returns-clause-resumed g c =
     let ended = c.in_ok-recorded in
-    let base : List Line = c.args.resumed.past.items ++ told_lines c.args.resumed.missing in
+    let point = c.args.point in
+    let base : List Line = point.resumed.past.items ++ told_lines point.resumed.missing in
     let same : c.resume-desk.result.lines ≡ base =
-    c.resume-desk.ensures.lines ∙ c.in_ok-journal.ensures ∙ ap (λ m. c.args.resumed.past.items ++ told_lines m) c.as_slice.ensures in
+    c.resume-desk.ensures.lines ∙ c.in_ok-journal.ensures ∙ ap (λ m. point.resumed.past.items ++ told_lines m) c.as_slice.ensures in
     let all : c.into_stream.result.lines ≡ c.in-Some.journal.lines = ap (λ s. s.lines) c.into_stream.ensures in
     let noted : c.into_stream.result.noted ≡ c.in-Some.journal.noted = ap (λ s. s.noted) c.into_stream.ensures in
     let streams : Streams = record {
@@ -22,20 +23,20 @@ returns-clause-resumed g c =
       held = g.W.Write.contents c.args.w.now;
       held_now = g.W.Write.contents c.resume_session.new.w;
     } in
-    let ahead = so_of (λ (j : Stream). IsAheadBehind c.args.rules c.resume-desk.result.lines streams j.noted) ended.recorded.journal
+    let ahead = so_of (λ (j : Stream). IsAheadBehind point.rules c.resume-desk.result.lines streams j.noted) ended.recorded.journal
     c.in-Some.journal c.in-Some.is ended.ensures.ahead in
     record {
       lines = c.into_stream.result.lines;
       stored = c.finish-file.ensures.there.0;
-      served = served_as (λ (j : Stream). j.lines) c.args.rules c.resume-desk.result.lines base _ ended.broken ended.recorded
+      served = served_as (λ (j : Stream). j.lines) point.rules c.resume-desk.result.lines base streams ended.broken ended.recorded
           c.in-Some.journal c.into_stream.result.lines c.in-Some.is same all ended.ensures.served;
-      legal = subst (IsLegal c.args.rules) (sym all)
-          (so_of (λ (j : Stream). IsLegal c.args.rules j.lines) ended.recorded.journal c.in-Some.journal c.in-Some.is
+      legal = subst (IsLegal point.rules) (sym all)
+          (so_of (λ (j : Stream). IsLegal point.rules j.lines) ended.recorded.journal c.in-Some.journal c.in-Some.is
           ended.ensures.legal);
       begun = c.finish-file.ensures.begun;
       whole = c.finish-file.ensures.whole;
       there = c.finish-file.ensures.there.2;
-      ahead = ahead_on c.args.rules base _ c.into_stream.result.noted c.finish-file.ensures.there.0
+      ahead = ahead_on point.rules base streams c.into_stream.result.noted c.finish-file.ensures.there.0
           c.finish-file.ensures.there.1
-          (subst (λ n. IsAheadBehind c.args.rules base streams n) (sym noted) (subst (λ b. IsAheadBehind c.args.rules b streams c.in-Some.journal.noted) same ahead));
+          (subst (λ n. IsAheadBehind point.rules base streams n) (sym noted) (subst (λ b. IsAheadBehind point.rules b streams c.in-Some.journal.noted) same ahead));
     }
