@@ -1,6 +1,6 @@
 -- A server that goes on behind the lines of a trace's file: what its faults say of the file's text, and how it ends.
 use Rattle.std.proofs.Common.{◌≡◌, ◌∙◌, ℕ, Bool, true, false, List, [], Option, None, Some, refl, sym, subst}
-use Rattle.std.specs.Prelude.{◌≢◌, ◌&&◌}
+use Rattle.std.specs.Prelude.{◌≢◌}
 use Rattle.std.specs.Io.KnownBytes.{Keeps}
 use Rattle.fl_judge.specs.Audit.{whole_lines}
 use Rattle.fl_judge.specs.First.{IsSoOfAll}
@@ -18,7 +18,7 @@ use Rattle.lockd_faults.specs.declared.fault.CommandFault.TheVariants as command
 use Rattle.lockd_faults.specs.declared.status.Status.{Status}
 use Rattle.lockd_faults.specs.declared.status.Status.TheVariants.{Faulted, Good}
 use Rattle.lockd_serve.specs.Behind.{EndsBehind, FileSays, ServesBehind}
-use Rattle.lockd_serve.specs.Ending.{Ending, Ends, EndsUntraced, told_of}
+use Rattle.lockd_serve.specs.Ending.{Ending, Ends}
 use Rattle.lockd_serve.specs.Inside.{told_of_reading}
 use Rattle.lockd_serve.specs.Resumed.{IsOverBehind}
 use Rattle.lockd_serve.specs.declared.behind.ResumedRun.{ResumedRun}
