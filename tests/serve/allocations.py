@@ -80,8 +80,8 @@ def refusal(unique, order):
 
 
 def is_served(orders, trace, found, before=b""):
-    """The trace is legal, and begins with the lines `before`. The replies are those behind them, and those of the orders that are no lines of it. Gives
-    how many these are."""
+    """The trace is legal, and begins with the lines `before`. The replies are those behind them, and of the orders that are no lines of it. Gives how
+    many these are."""
     assert judged(trace) == "legal\n", judged(trace)
     assert trace.startswith(before), trace
     text = trace[len(before):].decode()
@@ -139,8 +139,8 @@ def leaves(server):
 
 
 def serve_with_file(orders, how, before, number):
-    """As `serve`, of a server with a trace's file, which has this text before, or isn't there. One that ends with no memory leaves a file of `--trace`
-    none, and one of `--resume` what it was, perhaps without what follows the last newline. It refuses no order."""
+    """As `serve`, of a server whose trace's file has this text before, or isn't there. Says whether it went on: then it refuses no order. With no memory
+    it leaves no file of `--trace`, and that of `--resume` as it was, perhaps without what follows the last newline."""
     server = Server(*how, env=refusing(number), traced=before, workers=None)
     found = talk(server, orders)
     ended = server.ended()
