@@ -139,8 +139,8 @@ def leaves(server):
 
 
 def serve_with_file(orders, how, before, number):
-    """As `serve`, of a server whose trace's file has this text before, or isn't there. Says whether it went on: then it refuses no order. With no memory
-    it leaves no file of `--trace`, and that of `--resume` as it was, perhaps without what follows the last newline."""
+    """As `serve`, of a server whose trace's file has this text before, or isn't there. Says whether it went on: then it refuses no order. If not, it
+    leaves no file of `--trace`, and that of `--resume` as it was, perhaps without what follows the last newline."""
     server = Server(*how, env=refusing(number), traced=before, workers=None)
     found = talk(server, orders)
     ended = server.ended()

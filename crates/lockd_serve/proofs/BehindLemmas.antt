@@ -49,10 +49,11 @@ kept_behind : (bytes : List ℕ) (old between new : Option (List ℕ)) → IsBeg
 kept_behind bytes None between new told kept = record { part = []; rest = bytes; parts = refl; written = tt }
 kept_behind bytes (Some xs) None new told kept = absurd told.written
 kept_behind bytes (Some xs) (Some ys) None told kept = absurd kept
-kept_behind bytes (Some xs) (Some ys) (Some zs) told kept = subst (λ l. IsBegun bytes (Some xs) (Some l)) (sym kept) told
+kept_behind bytes (Some xs) (Some ys) (Some zs) told kept =
+    subst (λ l. IsBegun bytes (Some xs) (Some l)) (sym kept) told
 
--- A server ended with this status, and what was told of it stands between. Then it is told that the trace failed, if that
--- wasn't told.
+-- A server ended with this status, and what was told of it stands between. Then it is told that the trace failed, if
+-- that wasn't told.
 module _ (status result : Status) (told between now : Option (List ℕ))
     (good : status ≡ Good → result ≡ Faulted command.TraceFailed) (bad : status ≢ Good → result ≡ status)
     (tells : status ≢ Faulted command.TraceFailed → IsTold command.TraceFailed between now)

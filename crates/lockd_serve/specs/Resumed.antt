@@ -34,8 +34,8 @@ pub record IsResumed {T : Type 0} (rules : Rules) (base : List Line) (contents :
   pub there : HoldsText contents (contents ended.file) stored
   pub ahead : IsAheadBehind rules base streams stored
 
--- A session went on behind these lines, and this is what the server leaves of it. All speaks of one and the same session:
--- what was read and written, its lines, what the file has of them, its fault and what is told. It had memory.
+-- A session went on behind these lines, and this is what the server leaves of it. All speaks of one and the same
+-- session: what was read and written, its lines, what the file has of them, its fault and what is told. It had memory.
 pub record IsOverBehind {T : Type 0} (rules : Rules) (base : List Line) (contents : T → Option (List ℕ))
     (streams : Streams) (it : Ending) (ended : ResumedRun T) : Type 0 where
   pub resumed : IsResumed rules base contents streams ended

@@ -37,11 +37,11 @@ pub struct ResumedRun<T> {
     pub whole: bool,
 }
 
-/// Serves a session that goes on from this point. `file` has the text of the point's lines and nothing more. The replies
-/// that they lack are written first, and then the lines of each order before any of its replies goes to the client. If
-/// lines can't be written, no reply that waits for them goes out, and the session ends. A message that is sent again
-/// (`FUSE_UNIQUE_RESEND`) is answered as it was, or is new if the last lines lack it. If memory runs out, the file is
-/// dropped, and nothing was read from the client or written to it.
+/// Serves a session that goes on from this point. `file` has the text of the point's lines and nothing more. The
+/// replies that they lack are written first, and then the lines of each order before any of its replies goes to the
+/// client. If lines can't be written, no reply that waits for them goes out, and the session ends. A message that is
+/// sent again (`FUSE_UNIQUE_RESEND`) is answered as it was, or is new if the last lines lack it. If memory runs out,
+/// the file is dropped, and nothing was read from the client or written to it.
 pub(crate) fn resume<R: Read, W: Write, T: Write + Drop>(
     alloc: Global,
     r: &mut R,
@@ -60,7 +60,8 @@ pub(crate) fn resume<R: Read, W: Write, T: Write + Drop>(
       held_now = W.contents w.new;
     })) }
     ensures fault { IfOk result (λ run. run.fault ≢ Some SessionFault.NoMemory) }
-    ensures unread { OnErr result (Keeps (R.remaining r.old) (R.remaining r.new) × Keeps (W.contents w.old) (W.contents w.new)) }
+    ensures unread { OnErr result
+        (Keeps (R.remaining r.old) (R.remaining r.new) × Keeps (W.contents w.old) (W.contents w.new)) }
 {
     let ResumePoint {
         resumed,

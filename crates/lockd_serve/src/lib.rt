@@ -5,12 +5,12 @@
 //! was read and written, the trace, the lines on `faults` and the status. `serve_on` serves so the first connection to
 //! a socket, of whose bytes contracts see nothing.
 //!
-//! `resumed_from` reads a trace by any reader, and gives the lines behind which a server goes on. `resume_stream` serves
-//! a session behind them, over any reader and two writers, the client's and the trace's file. It says the same of one
-//! session, and what the file has of its lines. A kill is a reader and writers that fail from some call on, so what it
-//! says of the end is said of each moment of a server. `resume_on` does both with a file and a socket: it locks the file
-//! and cuts it off. Of a file's bytes contracts see nothing either, nor a failure of a reader or a writer. They let
-//! through:
+//! `resumed_from` reads a trace by any reader, and gives the lines behind which a server goes on. `resume_stream`
+//! serves a session behind them, over any reader and two writers, the client's and the trace's file. It says the same
+//! of one session, and what the file has of its lines. A kill is a reader and writers that fail from some call on, so
+//! what it says of the end is said of each moment of a server. `resume_on` does both with a file and a socket: it locks
+//! the file and cuts it off. Of a file's bytes contracts see nothing either, nor a failure of a reader or a writer.
+//! They let through:
 //! - a `serve_stream` that says `no memory` and serves nobody, or says wrongly that the trace failed, or the output;
 //! - one that does with orders what another `when_full` says, when its trace's writer can't be written;
 //! - one that shuts its socket down before the session, only once the trace is printed, or not at all;
@@ -21,14 +21,15 @@
 //! - a `resume_stream` that says `no memory` and serves nobody, whatever it wrote to the file before, or that the file
 //!   isn't whole though it is, or that writes nothing to it before a reply waits;
 //! - a `resume_on` that serves nobody and prints any of its faults, or hands on no lines, or others than the file's;
-//! - one that cuts nothing off or too much, or a file whose lines differ; that doesn't lock its file, or only once it was
-//!   read, or doesn't ask at the end whether it is there;
+//! - one that cuts nothing off or too much, or a file whose lines differ; that doesn't lock its file, or only once it
+//!   was read, or doesn't ask at the end whether it is there;
 //! - a server that tells its observer something else than what it does, or nothing, or another reason.
 //!
 //! These tests refuse most of them:
 //! - sessions of each kind, over a socket: `tests/serve/sockets.py`, `tests/serve/sessions.py`, `tests/serve/workers.py`;
 //! - traces, files that go or can't be written, and `when_full`: `tests/serve/traces.py`;
-//! - `resume_on`, its file and old sockets: `tests/serve/sessions.py`, `tests/resume/kills.py`, `tests/resume/files.py`;
+//! - `resume_on`, its file and old sockets: `tests/serve/sessions.py`, `tests/resume/kills.py`,
+//!   `tests/resume/files.py`;
 //! - `no memory`, and what the trace's file has then: `tests/serve/allocations.py`;
 //! - what an observer is told: `tests/commands/words.py`, `tests/commands/texts.py`.
 #![tactic(auto)]

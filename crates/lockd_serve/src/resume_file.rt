@@ -121,8 +121,8 @@ fn is_regular(file: &File) -> bool {
     }
 }
 
-// Ends a server with this status, whose trace's file was whole or not. If it was whole, and isn't there any more, that is
-// told.
+// Ends a server with this status, whose trace's file was whole or not. If it was whole, and isn't there any more, that
+// is told.
 fn end_at<F: Write>(faults: &mut F, status: Status, whole: bool, there: bool) -> Status
     ensures { (fault : Option SessionFault) (told : Option (List ℕ))
         → EndsBehind fault whole (record { status = status; told = told; told_now = F.contents faults.old })

@@ -20,11 +20,11 @@ use std::os::unix::net::UnixStream;
 
 /// Serves a session that goes on from this point, with one worker: what the client sends is read from `r`, and the
 /// replies go to `w`. `file` has the text of the point's lines and nothing more. The replies that they lack are written
-/// to it first, and then the lines of each order before any of its replies leaves. If `r` and `w` are those of a socket,
-/// it is shut down once the session is over.
+/// to it first, and then the lines of each order before any of its replies leaves. If `r` and `w` are those of a
+/// socket, it is shut down once the session is over.
 ///
-/// A fault is one line on `faults`. Behind the session's fault it is told that the trace failed, if the file lacks lines.
-/// If memory runs out, that is told, nobody was served, and the file is dropped.
+/// A fault is one line on `faults`. Behind the session's fault it is told that the trace failed, if the file lacks
+/// lines. If memory runs out, that is told, nobody was served, and the file is dropped.
 pub fn resume_stream<I: Read, C: Write, T: Write + Drop, F: Write>(
     alloc: Global,
     r: &mut I,
