@@ -2,14 +2,17 @@
 GNU C library; where there is none it says so, with status 77.
 
 A server ends with status 2, `no memory` and no trace, or else goes on: its trace is legal, each order that is no line of it was told that it is
-refused, and all replies are those of the trace. One that says `no memory` answered nobody. `tries.py` says how it ends.
+refused, and all replies are those of the trace. One that says `no memory` answered nobody. It leaves no file of `--trace`, and that of `--resume` as
+it was. `tries.py` says how it ends.
 """
+import os
 import re
 import subprocess
 import sys
 
 from tests import calls, fuse
 from tests.fuse import EAGAIN, ENOMEM, FORGET, INTERRUPT, NO_LOCK, READ_LOCK, SETLK, SETLKW, WRITE_LOCK
+from tests.resume.kit import LINES, completed, lines_of
 from tests.tries import CREATE, INIT, PATIENCE, PROGRAM, TOP, Server, judged, lock, replies, setlk, take
 
 COUNTS = f"{calls.WORK.name}/counts"
@@ -76,10 +79,12 @@ def refusal(unique, order):
     return [] if opcode == FORGET else [(unique, EAGAIN if opcode == INTERRUPT else ENOMEM)]
 
 
-def is_served(orders, printed, found):
-    """The replies are those of the trace, which is legal, and of the orders that are no lines of it. Gives how many these are."""
-    assert judged(printed) == "legal\n", judged(printed)
-    text = printed.decode()
+def is_served(orders, trace, found, before=b""):
+    """The trace is legal, and begins with the lines `before`. The replies are those behind them, and of the orders that are no lines of it. Gives how
+    many these are."""
+    assert judged(trace) == "legal\n", judged(trace)
+    assert trace.startswith(before), trace
+    text = trace[len(before):].decode()
     taken = {int(it) for it in re.findall(r"^ask \d+ (\d+) ", text, re.M)}
     told = [(int(unique), int(error or 0)) for unique, error in re.findall(r"^tell (\d+) (?:err (\d+))?", text, re.M)]
     refused = [it for unique, order in orders.items() if unique not in taken for it in refusal(unique, order)]
@@ -119,6 +124,49 @@ def try_a_board_of_thousands():
 
 def try_a_server_with_requests_that_wait():
     return serve_each(waiting(), 4)
+
+
+def owed_lines():
+    """A trace whose last order lacks its last reply."""
+    lines = lines_of(LINES)
+    last = max(at for at, it in enumerate(lines) if it.startswith(b"tell 5 "))
+    return b"".join(lines[:last])
+
+
+def leaves(server):
+    """The text of its file; none if there is no file."""
+    return server.traced() if os.path.exists(server.file) else None
+
+
+def serve_with_file(orders, how, before, number):
+    """As `serve`, of a server whose trace's file has this text before, or isn't there. Says whether it went on: then it refuses no order. If not, it
+    leaves no file of `--trace`, and that of `--resume` as it was, perhaps without what follows the last newline."""
+    server = Server(*how, env=refusing(number), traced=before, workers=None)
+    found = talk(server, orders)
+    ended = server.ended()
+    if ended == (b"", "no memory\n", 2):
+        kept = {before} if how[0] == "--trace" else {before, b"".join(lines_of(before or b""))}
+        assert found is None and leaves(server) in kept, (number, how, before, found, leaves(server))
+        return False
+    assert ended == (b"", "", 0) and found is not None, (number, how, before, ended)
+    assert is_served(orders, leaves(server), found, completed(before or b"", LINES)) == 0, (number, how, before)
+    return True
+
+
+def serve_each_with_file(how, before=None):
+    assert serve_with_file(waiting(), how, before, 0)
+    came = [serve_with_file(waiting(), how, before, number) for number in range(1, asked() + 1)]
+    assert not all(came), came
+    return f"{len(came)} refused: {came.count(False)} ended with no memory"
+
+
+def try_servers_with_a_trace_file():
+    return "; ".join(serve_each_with_file(["--trace", "{file}", "--workers", str(workers)]) for workers in (1, 4))
+
+
+def try_servers_that_go_on():
+    """Behind whole lines, which lack a reply, behind some with a cut one, and in a new file."""
+    return "; ".join(serve_each_with_file(["--resume", "{file}"], before) for before in (owed_lines(), LINES + b"ask 0 8", None))
 
 
 def try_an_order_takes_no_memory():

@@ -1,5 +1,5 @@
 -- What is said of a session behind lines, of what came back of it.
-use Rattle.std.proofs.Common.{◌≡◌, ℕ, Bool, true, List, [], Option, Some, inl, inr, subst, sym}
+use Rattle.std.proofs.Common.{◌≡◌, Bool, true, List, [], Option, Some, inl, inr, subst, sym}
 use Rattle.std.specs.Prelude.{◌⊎◌, IfSome}
 use mathlib.Core.List.{IsPrefix}
 use Rattle.fl_history.specs.declared.history.Line.{Line}

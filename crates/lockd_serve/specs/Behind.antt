@@ -15,15 +15,11 @@ use Rattle.lockd_faults.specs.declared.fault.CommandFault.{CommandFault}
 use Rattle.lockd_faults.specs.declared.fault.CommandFault.TheVariants as command
 use Rattle.lockd_serve.specs.Ending.{Ending, Ends, EndsUntraced, told_of}
 
--- a text is that of these lines, and a rest with no newline
-pub record AreLinesOf (text : List ℕ) (lines : List Line) : Type 0 where
-  pub bytes : ℕ
-  pub are : AreWholeLines text lines bytes
-
 -- No legal history begins with the whole lines of a text, and the line of this number is the first that breaks the rules.
 pub record DiffersIn (rules : Rules) (text : List ℕ) (n : ℕ) : Type 0 where
   pub lines : List Line
-  pub are : AreLinesOf text lines
+  pub bytes : ℕ
+  pub are : AreWholeLines text lines bytes
   pub differs : DiffersAt rules lines n
   pub none : IsBeginning rules lines → ⊥
 
@@ -33,7 +29,6 @@ FileSays rules text (command.BadLine n) = BreaksAt LineFits (whole_lines text) n
 FileSays rules text (command.Differs n) = DiffersIn rules text n
 FileSays rules text command.NoMemory = ⊤
 FileSays rules text command.Read = ⊤
-FileSays rules text command.Trace = ⊤
 FileSays rules text fault = ⊥
 
 -- The session's fault is told. If the file lacks lines or is gone, it is told behind it that the trace failed.

@@ -1,17 +1,18 @@
 //! A session behind the lines of a trace.
 
-ghost use Rattle.std.specs.Prelude.{◌≡◌, ◌++◌, List, IfOk, OnErr, IsTrue};
+ghost use Rattle.std.specs.Prelude.{◌≡◌, ◌≢◌, ◌++◌, List, Some, IfOk, OnErr, IsTrue};
 ghost use Rattle.std.specs.Io.KnownBytes.{Keeps};
 ghost use mathlib.Core.List.{IsPrefix};
 ghost use Rattle.fl_desk.specs.Kept.{IsKept};
 ghost use Rattle.fl_history.specs.declared.history.Line.{Line as Entry};
 ghost use Rattle.fl_judge.specs.Present.{told_lines};
-ghost use Rattle.lockd_serve.specs.Resumed.{IsResumed};
+ghost use Rattle.fl_transport.specs.declared.fault.Fault.{Fault as SessionFault};
+ghost use Rattle.lockd_serve.specs.Resumed.{IsResumed, lines_at};
 ghost use Rattle.fl_stream.specs.Streams.{HoldsText, IsAs, IsBegun, Wrote};
 ghost use Rattle.fl_trace.specs.Text.{text_of};
 
 use crate::ahead::AheadLines;
-use fl_core::Rules;
+use crate::point::ResumePoint;
 use fl_desk::Desk;
 use fl_history::{Journal, Line, Past, Recent};
 use fl_judge::Resumed;
@@ -36,32 +37,38 @@ pub struct ResumedRun<T> {
     pub whole: bool,
 }
 
-/// Serves a session that goes on from what a trace leads to, under its rules. `recent` has the trace's lines, and `file`
-/// their text and nothing more. The replies that the lines lack are written first, and then the lines of each order
-/// before any of its replies goes to the client. If lines can't be written, no reply that waits for them goes out, and
-/// the session ends. A message that is sent again (`FUSE_UNIQUE_RESEND`) is answered as it was, or is new if the last
-/// lines lack it. If memory runs out, the file is dropped, and nothing was read from the client or written to it.
-pub fn resume<R: Read, W: Write, T: Write + Drop>(
+/// Serves a session that goes on from this point. `file` has the text of the point's lines and nothing more. The
+/// replies that they lack are written first, and then the lines of each order before any of its replies goes to the
+/// client. If lines can't be written, no reply that waits for them goes out, and the session ends. A message that is
+/// sent again (`FUSE_UNIQUE_RESEND`) is answered as it was, or is new if the last lines lack it. If memory runs out,
+/// the file is dropped, and nothing was read from the client or written to it.
+pub(crate) fn resume<R: Read, W: Write, T: Write + Drop>(
     alloc: Global,
     r: &mut R,
     w: &mut W,
-    resumed: Resumed,
-    recent: Recent,
+    point: ResumePoint,
     file: T,
-    rules: Rules,
 ) -> Result<ResumedRun<T>, NoMemory>
-    requires there { IsAs (T.contents file) (text_of resumed.past.items) }
-    requires recent { recent ≡ resumed.past.items }
-    requires kept { IsKept (resumed.past.items ++ told_lines resumed.missing) resumed.present }
-    requires rules { resumed.present.rules ≡ rules }
-    ensures resumed { IfOk result (IsResumed rules (resumed.past.items ++ told_lines resumed.missing) T.contents (record {
+    requires there { IsAs (T.contents file) (text_of point.resumed.past.items) }
+    requires recent { point.recent ≡ point.resumed.past.items }
+    requires kept { IsKept (lines_at point) point.resumed.present }
+    requires rules { point.resumed.present.rules ≡ point.rules }
+    ensures resumed { IfOk result (IsResumed point.rules (lines_at point) T.contents (record {
       left = R.remaining r.old;
       left_now = R.remaining r.new;
       held = W.contents w.old;
       held_now = W.contents w.new;
     })) }
-    ensures unread { OnErr result (Keeps (R.remaining r.old) (R.remaining r.new) × Keeps (W.contents w.old) (W.contents w.new)) }
+    ensures fault { IfOk result (λ run. run.fault ≢ Some SessionFault.NoMemory) }
+    ensures unread { OnErr result
+        (Keeps (R.remaining r.old) (R.remaining r.new) × Keeps (W.contents w.old) (W.contents w.new)) }
 {
+    let ResumePoint {
+        resumed,
+        recent,
+        rules,
+        ..
+    } = point;
     let Resumed {
         present,
         missing,

@@ -1,30 +1,30 @@
 //! `lockd serve --resume`: a session behind the lines of a trace's file.
 
-ghost use Rattle.std.specs.Prelude.{◌≡◌, ◌⊎◌, ◌++◌, [], IfOk, IfErr};
+ghost use Rattle.std.specs.Prelude.{◌≡◌, ◌⊎◌, ◌&&◌, ◌++◌, ℕ, [], List, Option, IfOk, IfErr};
 ghost use Rattle.std.specs.Path.{path_bytes};
 ghost use Rattle.fl_desk.specs.Kept.{IsKept};
 ghost use Rattle.fl_desk.specs.Verdicts.{IsBeginning};
-ghost use Rattle.fl_judge.specs.First.{IsSoOfAll};
+ghost use Rattle.fl_judge.specs.First.{AreWholeLines, IsSoOfAll};
 ghost use Rattle.fl_judge.specs.Present.{told_lines};
-ghost use Rattle.lockd_serve.specs.Behind.{AreLinesOf, FileSays, ServesBehind, ServesNobodyBehind};
+ghost use Rattle.fl_transport.specs.declared.fault.Fault.{Fault as SessionFault};
+ghost use Rattle.lockd_serve.specs.Behind.{EndsBehind, FileSays, ServesBehind, ServesNobodyBehind};
 ghost use Rattle.lockd_serve.specs.Ending.{Ending};
 ghost use Rattle.lockd_serve.specs.Inside.{DiffersBy, told_of_reading};
+ghost use Rattle.lockd_serve.specs.Resumed.{lines_at};
 
-use crate::behind::resume;
-use crate::ending::{end_resumed, end_unheard, end_unopened};
-use crate::serving::hang_up;
+use crate::ending::{end_unheard, end_unopened};
+use crate::point::ResumePoint;
+use crate::resuming::resume_stream;
 use fl_core::Rules;
 use fl_desk::Verdict;
-use fl_history::Recent;
 use fl_judge::{AuditFault, Details, Heard, Judge, Resumed, hear_cut};
 use lockd_faults::{CommandFault, Noting, Status, end};
 use lockd_streams::{
     Announcing, Observer, OldSocket, Patient, Retrying, Spinning, Untraced, WhenUnwritten,
-    connection, is_at,
+    connection, end_without_file, is_at,
 };
 use std::alloc::Global;
-use std::fs::{File, Files, OpenFile, TryLockError};
-use std::io;
+use std::fs::{File, Files, TryLockError};
 use std::io::{Read, Write};
 use std::net::Net;
 use std::path::Path;
@@ -53,7 +53,7 @@ pub fn resume_on<R: Net + Files + Clock, F: Write, N: Write + Drop, O: Observer>
     notices: N,
     observer: &mut O,
 ) -> Status
-    // Behind some lines: no clause ties them to the file, of whose bytes contracts see nothing.
+    // Some streams, and behind some lines: of the bytes of a socket and of a file contracts see nothing.
     ensures over { let it : Ending = record {
       status = result;
       told = F.contents faults.old;
@@ -68,16 +68,18 @@ pub fn resume_on<R: Net + Files + Clock, F: Write, N: Write + Drop, O: Observer>
     if let Some(why) = untakable(rt, &file, name) {
         return end_unopened(faults, observer, why);
     }
-    let (mut uncut, mut details) = (None, Details::new());
-    let (resumed, recent) = match resumed_from(alloc, rules, &mut file, &mut uncut, &mut details) {
-        Ok(found) => found,
-        Err(CommandFault::Trace) => return end_unopened(faults, observer, unfit(uncut)),
+    let mut details = Details::new();
+    let point = match resumed_from(alloc, rules, &mut file, &mut details) {
+        Ok(point) => point,
         Err(fault) => {
             let status = end(faults, Err(fault));
             observer.unresumed(alloc, status, &details);
             return status;
         }
     };
+    if let Err(why) = file.set_len(point.bytes) {
+        return end_unopened(faults, observer, Untraced::Uncut(why));
+    }
     observer.resumed();
     let stream = match connection(rt, alloc, path, OldSocket::Replace, observer) {
         Ok(stream) => stream,
@@ -86,12 +88,13 @@ pub fn resume_on<R: Net + Files + Clock, F: Write, N: Write + Drop, O: Observer>
     let mut r = Spinning::new(&stream, &stream);
     let mut w = Noting::new(Patient::new(&stream, &stream));
     let file = Retrying::new(Announcing::new(file, name, notices), rt, when);
-    let Ok(ended) = resume(alloc, &mut r, &mut w, resumed, recent, file, rules) else {
-        return end(faults, Err(CommandFault::NoMemory));
+    let socket = Some(&stream);
+    let (status, run) = resume_stream(alloc, &mut r, &mut w, point, file, socket, faults);
+    let Some(run) = run else {
+        return status;
     };
-    hang_up(&stream);
-    let there = is_at(rt, Path::new(name), ended.file.writer().file());
-    let status = end_resumed(faults, ended.fault, ended.whole && there);
+    let there = is_at(rt, Path::new(name), run.file.writer().file());
+    let status = end_at(faults, status, run.whole, there);
     observer.ended(r.client(), w.failed());
     if !there {
         observer.lost();
@@ -105,39 +108,55 @@ fn untakable<R: Files>(rt: &R, file: &File, name: &str) -> Option<Untraced> {
         Err(TryLockError::WouldBlock) => Some(Untraced::Taken),
         Err(TryLockError::Error(why)) => Some(Untraced::Unlocked(why)),
         Ok(()) if !is_at(rt, Path::new(name), file) => Some(Untraced::Gone),
+        Ok(()) if !is_regular(file) => Some(Untraced::Irregular),
         Ok(()) => None,
     }
 }
 
-// Why no server goes on behind a file that can be read. It can't be cut off for this reason, if there is one.
-fn unfit(uncut: Option<io::Error>) -> Untraced {
-    match uncut {
-        Some(why) => Untraced::Uncut(why),
-        None => Untraced::Irregular,
+// Whether it is a regular file. It isn't, if the system doesn't tell.
+fn is_regular(file: &File) -> bool {
+    match file.metadata() {
+        Ok(found) => found.is_file(),
+        Err(_) => false,
     }
 }
 
-/// What a server goes on from behind the lines of a trace's file, under these rules, and the last of these lines. Nothing
-/// was read of the file yet. What follows its last newline is cut off, once its lines are known to begin a legal history.
-/// The fault is `Trace` if it is no regular file, or can't be cut off, and then `uncut` gets the reason. What is told of
-/// its lines goes to `details`.
-pub fn resumed_from<T: Read + OpenFile>(
+// Ends a server with this status, whose trace's file was whole or not. If it was whole, and isn't there any more, that
+// is told.
+fn end_at<F: Write>(faults: &mut F, status: Status, whole: bool, there: bool) -> Status
+    ensures { (fault : Option SessionFault) (told : Option (List ℕ))
+        → EndsBehind fault whole (record { status = status; told = told; told_now = F.contents faults.old })
+        → EndsBehind fault (whole && there) (record {
+          status = result;
+          told = told;
+          told_now = F.contents faults.new;
+        }) }
+{
+    if !whole {
+        return status;
+    }
+    if there {
+        return status;
+    }
+    end_without_file(faults, status)
+}
+
+/// What a server goes on from behind the lines of a trace's file, under these rules: all its lines, up to the last
+/// newline. What is told of them goes to `details`.
+pub fn resumed_from<S: Read>(
     alloc: Global,
     rules: Rules,
-    file: &mut T,
-    uncut: &mut Option<io::Error>,
+    file: &mut S,
     details: &mut Details,
-) -> Result<(Resumed, Recent), CommandFault>
-    ensures lines { IfOk result (λ r. IsSoOfAll (T.remaining file.old) (λ text. AreLinesOf text r.0.past.items)) }
-    ensures recent { IfOk result (λ r. r.1 ≡ r.0.past.items) }
-    ensures kept { IfOk result (λ r. IsKept (r.0.past.items ++ told_lines r.0.missing) r.0.present) }
-    ensures rules { IfOk result (λ r. r.0.present.rules ≡ rules) }
-    ensures error { IfErr result (λ fault. IsSoOfAll (T.remaining file.old) (λ text. FileSays rules text fault)) }
+) -> Result<ResumePoint, CommandFault>
+    ensures lines { IfOk result (λ point. IsSoOfAll (S.remaining file.old)
+        (λ text. AreWholeLines text point.resumed.past.items point.bytes)) }
+    ensures recent { IfOk result (λ point. point.recent ≡ point.resumed.past.items) }
+    ensures kept { IfOk result (λ point. IsKept (lines_at point) point.resumed.present) }
+    ensures present { IfOk result (λ point. point.resumed.present.rules ≡ point.rules) }
+    ensures rules { IfOk result (λ point. point.rules ≡ rules) }
+    ensures error { IfErr result (λ fault. IsSoOfAll (S.remaining file.old) (λ text. FileSays rules text fault)) }
 {
-    let regular = file.metadata().map(|found| found.is_file());
-    if !regular.unwrap_or(false) {
-        return Err(CommandFault::Trace);
-    }
     let heard = match hear_cut(alloc, rules, file, details) {
         Ok(heard) => heard,
         Err(fault) => return Err(told(fault)),
@@ -151,13 +170,12 @@ pub fn resumed_from<T: Read + OpenFile>(
         Ok(resumed) => resumed,
         Err(fault) => return Err(fault),
     };
-    match file.set_len(bytes) {
-        Ok(()) => Ok((resumed, recent)),
-        Err(why) => {
-            *uncut = Some(why);
-            Err(CommandFault::Trace)
-        }
-    }
+    Ok(ResumePoint {
+        resumed,
+        recent,
+        bytes,
+        rules,
+    })
 }
 
 // What a server goes on from behind the lines that a judge heard. The fault is the line that differs, if no legal history

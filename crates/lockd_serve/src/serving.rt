@@ -119,16 +119,16 @@ pub fn serve_stream<
     }
 }
 
-// Ends a connection, if there is one: its client hears that before the trace is printed, which may take until somebody
-// reads it.
-fn hang_up_if(socket: Option<&UnixStream>) {
+/// Ends a connection, if there is one: its client hears that before the trace is printed, which may take until somebody
+/// reads it.
+pub(crate) fn hang_up_if(socket: Option<&UnixStream>) {
     if let Some(socket) = socket {
         hang_up(socket);
     }
 }
 
-/// Ends a connection.
-pub(crate) fn hang_up(socket: &UnixStream) {
+// Ends a connection.
+fn hang_up(socket: &UnixStream) {
     let _ = socket.shutdown(Shutdown::Both);
 }
 

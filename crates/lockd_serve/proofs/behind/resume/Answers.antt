@@ -11,9 +11,10 @@ use Rattle.lockd_serve.proofs.behind.resume.Goals as goal
 pub returns-clause-resumed : goal.returns-clause-resumed
 returns-clause-resumed g c =
     let ended = c.in_ok-recorded in
-    let base : List Line = c.args.resumed.past.items ++ told_lines c.args.resumed.missing in
+    let point = c.args.point in
+    let base : List Line = point.resumed.past.items ++ told_lines point.resumed.missing in
     let same : c.resume-desk.result.lines ≡ base =
-    c.resume-desk.ensures.lines ∙ c.in_ok-journal.ensures ∙ ap (λ m. c.args.resumed.past.items ++ told_lines m) c.as_slice.ensures in
+    c.resume-desk.ensures.lines ∙ c.in_ok-journal.ensures ∙ ap (λ m. point.resumed.past.items ++ told_lines m) c.as_slice.ensures in
     let all : c.into_stream.result.lines ≡ c.in-Some.journal.lines = ap (λ s. s.lines) c.into_stream.ensures in
     let noted : c.into_stream.result.noted ≡ c.in-Some.journal.noted = ap (λ s. s.noted) c.into_stream.ensures in
     let streams : Streams = record {
@@ -24,15 +25,15 @@ returns-clause-resumed g c =
     } in
     let more : List Line = c.finish-file.ensures.there.0 in
     let grows : IsPrefix c.in-Some.journal.noted more = subst (λ n. IsPrefix n more) noted c.finish-file.ensures.there.1 in
-    let served = served_as (λ (j : Stream). j.lines) (λ (j : Stream). j.noted) c.args.rules c.resume-desk.result.lines base
+    let served = served_as (λ (j : Stream). j.lines) (λ (j : Stream). j.noted) point.rules c.resume-desk.result.lines base
     streams ended.broken ended.recorded c.in-Some.journal c.into_stream.result.lines more c.in-Some.is same all grows
     ended.ensures.served in
     record {
       lines = c.into_stream.result.lines;
       stored = more;
       served = served.served;
-      legal = subst (IsLegal c.args.rules) (sym all)
-          (so_of (λ (j : Stream). IsLegal c.args.rules j.lines) ended.recorded.journal c.in-Some.journal c.in-Some.is
+      legal = subst (IsLegal point.rules) (sym all)
+          (so_of (λ (j : Stream). IsLegal point.rules j.lines) ended.recorded.journal c.in-Some.journal c.in-Some.is
           ended.ensures.legal);
       begun = c.finish-file.ensures.begun;
       whole = c.finish-file.ensures.whole;
