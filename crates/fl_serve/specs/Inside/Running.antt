@@ -21,9 +21,9 @@ use Rattle.fl_workers.specs.declared.room.BatchRoom.{BatchRoom}
 pub record CanRun (rules : Rules) (of : TableId) (inbox : Inflow) (put : PutSide) (ends : List TakeSide)
     (rooms : List BatchRoom) : Type 0 where
   pub unread : IsUnread inbox
-  pub put : (put.of ≡ of) × (put.closed ≡ false) × (put.put ≡ [])
-  pub ends : All (IsFresh of) ends
-  pub rooms : All (HasBatchFor (rules.parked + 1)) rooms
+  pub unused : (put.of ≡ of) × (put.closed ≡ false) × (put.put ≡ [])
+  pub fresh : All (IsFresh of) ends
+  pub batches : All (HasBatchFor (rules.parked + 1)) rooms
 
 -- there is room for the posts of so many workers, for their threads, and for what they give back and one appender more
 abbrev pub HaveRoom : {L N : Type 0} → ℕ → Posts L N → Type 0

@@ -54,9 +54,9 @@ pub run_pool-requires-clause-can : goal.run_pool-requires-clause-can
 run_pool-requires-clause-can g c _ _ =
     let can = c.in-Ok.ensures.stock.can in record {
       unread = can.unread;
-      put = can.put;
-      ends = subst (All (IsFresh c.in-Ok.made.2.intake)) (sym c.at-posts.ensures.ends) can.ends;
-      rooms = subst (All (HasBatchFor (g.L.BoardName.rules.parked + 1))) (sym c.at-posts.ensures.rooms) can.rooms;
+      unused = can.unused;
+      fresh = subst (All (IsFresh c.in-Ok.made.2.intake)) (sym c.at-posts.ensures.ends) can.fresh;
+      batches = subst (All (HasBatchFor (g.L.BoardName.rules.parked + 1))) (sym c.at-posts.ensures.rooms) can.batches;
     }
 
 pub run_pool-requires-clause-own : goal.run_pool-requires-clause-own
