@@ -1,6 +1,7 @@
 //! Lines that go to a writer as their text, and wait in memory only until then.
 
-ghost use Rattle.std.specs.Prelude.{◌≡◌, ◌≢◌, ◌↔◌, ◌+◌, ◌≤◌, ◌<◌, ◌++◌, ◌∷◌, [], false, IsTrue, IfOk, OnOk, IsOk};
+ghost use Rattle.std.specs.Prelude.{◌≡◌, ◌≢◌, ◌↔◌, ◌⊎◌, ◌+◌, ◌≤◌, ◌<◌, ◌++◌, ◌∷◌, [], false, IsTrue, IfOk, OnOk};
+ghost use Rattle.std.specs.Prelude.{OnErr, IsOk};
 ghost use Rattle.std.specs.Io.KnownBytes.{Keeps};
 ghost use mathlib.Core.List.{IsPrefix};
 ghost use Rattle.fl_history.specs.declared.history.Line.TheVariants as line;
@@ -207,6 +208,7 @@ impl<W: Write> Streamed<W> {
         ensures goes_on { self.new.manner ≡ manner.GoOn → 2048 ≤ self.new.room }
         ensures room { self.old.manner ≢ manner.Refuse → self.old.room ≤ self.new.room }
         ensures refuses { self.new.manner ≡ manner.Refuse → self.new.unsent ≢ [] → self.new.room ≡ 0 }
+        ensures empty { self.new.manner ≡ manner.Refuse → (self.new.room ≡ 0) ⊎ (2048 ≤ self.new.room) }
         ensures stays { IsTrue self.old.broken → IsTrue self.new.broken }
         ensures silent { IsTrue self.old.broken → Keeps self.old.held self.new.held }
     {
@@ -312,6 +314,7 @@ impl<W: Write> Journal for Streamed<W> {
         ensures goes_on { self.old.manner ≡ manner.GoOn → IsOk result }
         ensures refuses { self.old.manner ≡ manner.Refuse → self.old.room < count
             → OnOk result (self.new.unsent ≡ []) }
+        ensures empty { self.old.manner ≡ manner.Refuse → OnErr result (self.new.room ≡ 0) }
         ensures silent { IsTrue self.old.broken → Keeps self.old.held self.new.held }
     {
         let waits = self.unsent.len() >= MOST_WAITING && self.manner != WhenWriterFails::Refuse;

@@ -1,5 +1,5 @@
 -- What one worker recorded, and what several did, as what was served.
-use Rattle.std.proofs.Common.{◌≡◌, ℕ, ◌<◌, Bool, List, Option, None, Some, arith}
+use Rattle.std.proofs.Common.{◌≡◌, ◌≢◌, ℕ, ◌<◌, ◌∙◌, Bool, List, Option, None, Some, ap, arith, sym, subst, true≢false, ⊎_elim}
 use Rattle.std.specs.Prelude.{IfSome}
 use Rattle.fl_desk.specs.Legal.{IsLegal, nothing}
 use Rattle.fl_history.specs.declared.history.Line.{Line}
@@ -7,8 +7,11 @@ use Rattle.fl_serve.specs.Serve.{IsRecordedBy}
 use Rattle.fl_session.specs.Recorded.{done_of, journal_lines}
 use Rattle.fl_session.specs.Served.{IsServed}
 use Rattle.fl_session.specs.declared.recorded.Recorded.{Recorded}
+use Rattle.fl_transport.specs.Ending.{EndsBy}
 use Rattle.fl_transport.specs.Streams.{Streams}
+use Rattle.fl_transport.specs.declared.fault.Fault.TheVariants.{Unstored}
 use Rattle.fl_waiting.specs.declared.rules.Rules.{Rules}
+use Rattle.lockd_serve.specs.Ending.{has_history}
 use Rattle.lockd_serve.specs.Served.{HasServed}
 
 -- the lines of a journal are legal, and no lines if there is none
@@ -38,3 +41,11 @@ several lines stored workers rules streams it more is = record {
   alone = λ one. absurd (omega (arith, one, more));
   several = λ _. is.served;
 }
+
+-- several workers never end since lines couldn't be stored
+pub never_unstored : {K : Type 0} (lines stored : K → List Line) (workers : ℕ) (rules : Rules) (streams : Streams)
+    (it : Recorded K) → IsRecordedBy lines stored workers rules streams it → it.fault ≢ Some Unstored
+never_unstored lines stored workers rules streams it is lost =
+    ⊎_elim
+    (subst (λ fault. EndsBy fault is.served.broken is.served.messages is.served.rest streams.left_now) lost)
+    (λ none. absurd (true≢false (ap has_history (sym lost ∙ none)))) is.served.ending

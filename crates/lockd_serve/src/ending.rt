@@ -73,6 +73,7 @@ pub(crate) fn end_printed<W: Write, F: Write>(
     ensures good { result ≡ Status.Good → (done.now.fault ≡ None)
         × Appends (W.contents output.old) (W.contents output.new) (text_of done.now.history) }
     ensures memory { result ≡ Status.Faulted CommandFault.NoMemory → done.now.fault ≡ Some SessionFault.NoMemory }
+    ensures stored { result ≡ Status.Faulted CommandFault.TraceFailed → done.now.fault ≡ Some SessionFault.Unstored }
     ensures heard { result ≢ Status.Faulted CommandFault.Listen }
 {
     if has_history(done.fault) && print(room, &done.history, output).is_err() {
@@ -152,6 +153,7 @@ pub(crate) fn end_session<F: Write>(faults: &mut F, fault: Option<Fault>) -> Sta
     }) }
     ensures good { result ≡ Status.Good → fault ≡ None }
     ensures memory { result ≡ Status.Faulted CommandFault.NoMemory → fault ≡ Some SessionFault.NoMemory }
+    ensures stored { result ≡ Status.Faulted CommandFault.TraceFailed → fault ≡ Some SessionFault.Unstored }
     ensures heard { result ≢ Status.Faulted CommandFault.Listen }
 {
     match fault {

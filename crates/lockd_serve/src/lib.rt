@@ -11,16 +11,19 @@
 //! what it says of the end is said of each moment of a server. `resume_on` does both with a file and a socket: it locks
 //! the file and cuts it off. Of a file's bytes contracts see nothing either, nor a failure of a reader or a writer.
 //! They let through:
-//! - a `serve_stream` that says `no memory` and serves nobody, or says wrongly that the trace failed, or the output;
-//! - one that does with orders what another `when_full` says, when its trace's writer can't be written;
-//! - one that shuts its socket down before the session, only once the trace is printed, or not at all;
-//! - one that prints a fault in part, or not at all, and what `fl_session`, `fl_serve`, `fl_stream` and `lockd_streams`
-//!   let through;
+//! - a `serve_stream` that says `no memory` and serves nobody, or says wrongly that the output failed, or that the
+//!   trace's writer did, then perhaps in place of its own fault;
+//! - one that does with lines what another `when_full` says;
+//! - one that shuts its socket down before the session, only once the trace is printed, or not at all, or reads and
+//!   writes there itself; a `resume_stream` that does so, too;
+//! - one of these that prints a fault in part, or not at all, and what `fl_session`, `fl_serve`, `fl_stream` and
+//!   `lockd_streams` let through;
 //! - a `serve_on` that always says `cannot listen`, or serves something else than the connection;
 //! - a `resumed_from` that is always refused, and what `fl_judge` lets through;
 //! - a `resume_stream` that says `no memory` and serves nobody, whatever it wrote to the file before, or that the file
 //!   isn't whole though it is, or that writes nothing to it before a reply waits;
-//! - a `resume_on` that serves nobody and prints any of its faults, or hands on no lines, or others than the file's;
+//! - a `resume_on` that serves nobody and prints any of its faults or none, hands on no lines, or others than the
+//!   file's, or writes the new ones elsewhere;
 //! - one that cuts nothing off or too much, or a file whose lines differ; that doesn't lock its file, or only once it
 //!   was read, or doesn't ask at the end whether it is there;
 //! - a server that tells its observer something else than what it does, or nothing, or another reason.

@@ -1,6 +1,6 @@
 //! One session over a reader and a writer, and what is left of it.
 
-ghost use Rattle.std.specs.Prelude.{◌≡◌, ◌≢◌, ◌≤◌, ◌<◌, [], true, false, None, Some, MatchOption};
+ghost use Rattle.std.specs.Prelude.{◌≡◌, ◌≢◌, ◌≤◌, ◌<◌, [], true, false, None, Some, IsTrue, MatchOption};
 ghost use Rattle.std.specs.Io.KnownBytes.{Keeps};
 ghost use Rattle.fl_session.specs.Recorded.{done_of, journal_lines};
 ghost use Rattle.fl_stream.specs.Streams.{IsBlank};
@@ -72,6 +72,10 @@ pub fn serve_stream<
           held = C.contents w.old;
           held_now = C.contents w.new;
         }) (W.contents output.old) (W.contents output.new) result.1 }
+
+    // Where no writer gets the trace, it never fails.
+    ensures untold { ((writer : T) → options.trace ≢ TraceTo.Writer writer)
+        → result.0 ≢ Status.Faulted CommandFault.TraceFailed }
 
     // If there is no memory, nobody was served: nothing was read, and nothing was written. In all other cases somebody
     // was.
@@ -155,6 +159,7 @@ where
         (λ _. has_history result.fault ≡ true) }
     ensures unread { result.fault ≡ Some SessionFault.NoMemory → Keeps (I.remaining r.old) (I.remaining r.new) }
     ensures unwritten { result.fault ≡ Some SessionFault.NoMemory → Keeps (C.contents w.old) (C.contents w.new) }
+    ensures stored { IsTrue J.infallible → result.fault ≢ Some SessionFault.Unstored }
 {
     if staff.workers == 1 {
         let (recorded, _) = record_session(alloc, r, w, journal, staff.rules);
