@@ -32,10 +32,10 @@ test: ## the whole gate: an hour and more
 	.ci/run
 
 install: ## installs what was built: make install PREFIX=/usr/local
-	dist/install $(PREFIX) $(DESTDIR)
+	dist/install '$(PREFIX)' $(if $(DESTDIR),'$(DESTDIR)')
 
 uninstall: ## removes what was installed there: make uninstall PREFIX=/usr/local
-	dist/install --uninstall $(PREFIX) $(DESTDIR)
+	dist/install --uninstall '$(PREFIX)' $(if $(DESTDIR),'$(DESTDIR)')
 
 deb: ## makes a Debian package of what was built, and prints its path
 	dist/package
