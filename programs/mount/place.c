@@ -350,6 +350,39 @@ static const char *why_not(const struct place *place, enum earlier found, const 
     return text;
 }
 
+// A file in the folder lies below the mount, so a carrier that looks at it would wait for itself.
+static void refuse_inside(const struct place *place, const char *path)
+{
+    char parent[PATH_MAX + 2];
+    struct stat at, below = {0};
+    snprintf(parent, PATH_MAX, "%s", path);
+    char *slash = strrchr(parent, '/');
+    snprintf(slash ? slash + 1 : parent, 2, ".");
+    int folder = open(parent, O_PATH | O_DIRECTORY | O_CLOEXEC);
+    while (folder >= 0 && !fstat(folder, &at) && (at.st_dev != below.st_dev || at.st_ino != below.st_ino)) {
+        errno = 0;
+        if (at.st_dev == place->below.st_dev && at.st_ino == place->below.st_ino)
+            fail("%s is in %s, where the mount would hide it", path, place->path);
+        below = at;
+        int above = openat(folder, "..", O_PATH | O_DIRECTORY | O_CLOEXEC);
+        close(folder);
+        folder = above;
+    }
+    if (folder >= 0)
+        close(folder);
+}
+
+static void refuse_all_inside(const struct place *place, const struct options *options)
+{
+    char temporary[PATH_MAX];
+    const char *where = getenv("TMPDIR");
+    snprintf(temporary, sizeof temporary, "%s/", where && *where ? where : "/tmp");
+    const char *const paths[] = {options->resume, options->trace, options->times, temporary};
+    for (size_t at = 0; at < sizeof paths / sizeof *paths; at++)
+        if (paths[at] && strcmp(paths[at], "none") != 0)
+            refuse_inside(place, paths[at]);
+}
+
 void place_open(struct place *place, const struct options *options, bool (*stops)(void))
 {
     enum earlier found, before = NONE;
@@ -374,6 +407,7 @@ void place_open(struct place *place, const struct options *options, bool (*stops
             fail("ended before anything was mounted");
         usleep(STEP);
     }
+    refuse_all_inside(place, options);
     if (!options->nonempty)
         refuse_nonempty(place);
 }

@@ -103,12 +103,22 @@ def try_what_cannot_be_mounted():
         ("unrecognized option", folder, "--nothing"), ("mode (octal)", folder, "--mode", "9"), ("grace", folder, "--grace", "-1"),
         ("files: a number from 1 to 65536", folder, "--files", "65537"), ("open: a number from 1 to 65536", folder, "--open", "0"),
         ("no folder at --help", "--", "--help"), ("--trace-full", folder, "--trace-full", "never"), ("no folder", ""),
-        ("has a newline", folder, "--trace", f"{folder}/a\nb"), ("has a newline", folder, "--resume", f"{folder}/a\nb"),
+        ("has a newline", folder, "--trace", f"{folder}.a\nb"), ("has a newline", folder, "--resume", f"{folder}.a\nb"),
     ]
     for said, *words in wanted:
         contains(refusal(*words), said)
     contains(refusal(folder=folder, LOCKD="/no/such/program"), "no program at /no/such/program")
     contains(refusal(folder=folder, TMPDIR="/no/such/tmp"), "cannot make a folder in /no/such/tmp")
+    assert folder not in mounts()
+
+
+def try_files_in_the_folder_are_refused():
+    folder = tempfile.mkdtemp(dir=WORK)
+    os.mkdir(f"{folder}/below")
+    for words in ["--trace", f"{folder}/t"], ["--resume", f"{folder}/below/r"], ["--times", f"{folder}/below/../t"]:
+        contains(refusal("--nonempty", *words, folder=folder), words[1], f"is in {folder}")
+    contains(refusal("--nonempty", folder=folder, TMPDIR=f"{folder}/below"), f"is in {folder}")
+    same(os.listdir(folder), ["below"])
     assert folder not in mounts()
 
 
