@@ -343,8 +343,8 @@ impl<T: Copy> Arena<T> {
         self.free
     }
 
-    /// What each arena keeps, whatever was done with it. It changes nothing: whoever lends an arena calls it, to promise
-    /// the same.
+    /// What each arena keeps, whatever was done with it. It changes nothing: whoever lends an arena calls it, to
+    /// promise the same.
     pub fn keeps_links(&self)
         ensures { IsLinked self.now }
     {

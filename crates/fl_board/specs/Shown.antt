@@ -25,8 +25,8 @@ pub record IsHandedIn (rules : Rules) (old : Place) (order : Order) (tolds : Lis
   pub count : new.count ≡ old.count + 1
   pub recorded : new.count ≤ length (answered_by old.worker new.own)
 
--- These orders were handed in one after another at one worker's place, each with one of these lists of replies. If there
--- are fewer lists than orders, the orders without one weren't handed in.
+-- These orders were handed in one after another at one worker's place, each with one of these lists of replies. If
+-- there are fewer lists than orders, the orders without one weren't handed in.
 abbrev pub AreHandedIn : Rules → Place → List Order → List (List Told) → Place → Type 0
 AreHandedIn rules old orders [] new = new ≡ old
 AreHandedIn rules old [] (tolds ∷ lists) new = ⊥

@@ -140,8 +140,8 @@ impl<L: BoardName, R: Wait + Drop, J: Journal> Board<L, R, J> {
 
     /// Takes an order of the seat's worker, as `Desk::take` does: records it, answers it, and hands out the replies
     /// that it records. If lines must be stored before replies leave, it waits until its own are: they count as stored
-    /// at the seat. A refusal changes no line, lock, count or seat. `NoView` comes if the history doesn't begin with all
-    /// that the worker handed in or was shown, has 2^62 orders, or isn't all that was logged.
+    /// at the seat. A refusal changes no line, lock, count or seat. `NoView` comes if the history doesn't begin with
+    /// all that the worker handed in or was shown, has 2^62 orders, or isn't all that was logged.
     pub fn hand_in<W: Wait>(
         &self,
         rt: &W,

@@ -5,8 +5,8 @@
 //! - what takes orders: `Desk`, for one caller at a time; `Board` with its `Seat`s, for several threads; `Rules`, by
 //!   which requests wait;
 //! - for boards, what names one (`BoardName`, `LogName`, `FreshLog`, `Ask`), what it says in place of an answer
-//!   (`OpenFault`, `HandFault`, `NoView`, `CloseFault`), and what a batch of orders needs (`MOST_IN_BATCH`, `ToldLists`,
-//!   `Outgoing`, `NothingOutgoing`);
+//!   (`OpenFault`, `HandFault`, `NoView`, `CloseFault`), and what a batch of orders needs (`MOST_IN_BATCH`,
+//!   `ToldLists`, `Outgoing`, `NothingOutgoing`);
 //! - where lines go, a `Journal`: `Lines`, `NoJournal`, or `Streamed` with `WhenWriterFails`;
 //! - `History` and its `Line`s; its text by `read_trace`, `print_trace`, `write_trace`, `first_line` and `has_text`,
 //!   with `TraceRoom`, `TraceFault` and `Unwritten`;

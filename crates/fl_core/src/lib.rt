@@ -11,8 +11,8 @@
 //! - A FLUSH takes away all record locks of its owner on the node, and no whole-file lock. A RELEASE takes away its
 //!   owner's whole-file lock if it says so, and all locks of the node if no fh is open there any more.
 //!
-//! All that is there stands in six arenas, and no slot of them is linked twice, or free while it is linked
-//! (`Core::arenas`).
+//! All that is there stands in six arenas, and no slot of them is linked twice (`Core::arenas`). What contracts see of
+//! it stands in five of them; the sixth finds names faster.
 //!
 //! `Core::replay` is for a second core that follows a first: a lock request is carried out by its reply, and no test is
 //! made again. Contracts let through a `replay` that makes all tests, and a `Tolds::new` that is always refused, or has

@@ -18,9 +18,10 @@ use fl_ranges::Table;
 use fl_waiting::{Claim, Parked, Request, Rules};
 
 impl Core {
-    /// Carries out an order that was told this itself, a reply or none yet, and nobody else anything, when `step` took it
-    /// in this state. A lock is set or taken away and a request is parked with no test, and an error changes nothing.
-    /// `tolds` is room for what an order is told that has to be tested again; what it has afterwards is left open.
+    /// Carries out an order that was told this itself, a reply or none yet, and nobody else anything, when `step` took
+    /// it in this state. A lock is set or taken away and a request is parked with no test, and an error changes
+    /// nothing. `tolds` is room for what an order is told that has to be tested again; what it has afterwards is left
+    /// open.
     pub fn replay(
         &mut self,
         order: &Order,

@@ -7,8 +7,8 @@ use Rattle.fl_desk.specs.Replay.{state_after}
 use Rattle.fl_desk.specs.Legal.{IsLegal}
 use Rattle.fl_waiting.specs.declared.rules.Rules.{Rules}
 
--- the history so far, those of its lines that its journal stored, what is there now, and for how many more lines memory is
--- there
+-- the history so far, those of its lines that its journal stored, what is there now, and for how many more lines memory
+-- is there
 pub record Book : Type 0 where
   pub lines : List Line
   pub stored : List Line

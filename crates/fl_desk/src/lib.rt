@@ -4,7 +4,8 @@
 //! All that a desk promises holds for every journal of its lines, by one proof. `Counter` states a contract, and a
 //! board of `fl_board` keeps it. Contracts let through a `take` that is refused when its journal has no room yet,
 //! though memory is there; a `new`, `over` or `check` that is always refused; and a `pause` that does nothing. Tests
-//! refuse these. `tests/commands/changes.py` has 300 random traces, and 28 kinds of change of each, judged by `lockd check`.
+//! refuse these. `tests/commands/changes.py` has 300 random traces, and 28 kinds of change of each, judged by
+//! `lockd check`.
 #![tactic(auto)]
 
 mod counter;

@@ -13,8 +13,8 @@ pub trait Journal {
     /// All lines so far, wherever they are.
     ghost lines: { Self → List Entry };
 
-    /// Those at their front that are stored: what the journal is there for has them. If it stores none for anybody, these
-    /// are all lines.
+    /// Those at their front that are stored: what the journal is there for has them. If it stores none for anybody,
+    /// these are all lines.
     ghost stored: { Self → List Entry };
 
     /// For how many more lines there is room.

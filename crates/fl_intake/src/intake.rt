@@ -142,8 +142,8 @@ impl Intake {
         self.queue.push_as::<Putting, R>(rt, &mut end.pass, entry)
     }
 
-    /// Takes the oldest job into a batch that has none, and waits while none is inside. It takes none once the intake is
-    /// closed and empty.
+    /// Takes the oldest job into a batch that has none, and waits while none is inside. It takes none once the intake
+    /// is closed and empty.
     pub fn take<R: Wait>(&self, rt: &R, end: &mut TakeEnd, batch: &mut Vec<Job>)
         requires end { end.old.of ≡ self.now }
         requires none { batch.old.items ≡ [] }
@@ -174,9 +174,9 @@ impl Intake {
         unreachable!()
     }
 
-    /// Takes several jobs, the oldest first, into a batch that has none. They are this end's share of those inside: their
-    /// number divided by that of the ends that take, and one at least. It takes no more than the batch has room for. It
-    /// doesn't sleep, and takes none if none is inside.
+    /// Takes several jobs, the oldest first, into a batch that has none. They are this end's share of those inside:
+    /// their number divided by that of the ends that take, and one at least. It takes no more than the batch has room
+    /// for. It doesn't sleep, and takes none if none is inside.
     pub fn take_many<R: Wait>(&self, rt: &R, end: &mut TakeEnd, batch: &mut Vec<Job>)
         requires end { end.old.of ≡ self.now }
         requires none { batch.old.items ≡ [] }

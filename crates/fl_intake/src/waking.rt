@@ -100,8 +100,8 @@ impl Waking {
         }
     }
 
-    /// How many of the jobs inside one end may take at once, one at least. What it takes waits in its batch, however many
-    /// others are free, so each end leaves as much to each other one.
+    /// How many of the jobs inside one end may take at once, one at least. What it takes waits in its batch, however
+    /// many others are free, so each end leaves as much to each other one.
     pub(crate) fn share(&self) -> u64 {
         // A job can be counted as taken before it is counted as put.
         let put = self.put.load(Ordering::SeqCst);

@@ -1,5 +1,5 @@
--- Each stage of an order of a quiet history keeps it so that no two parked record requests are of one owner, and that owners
--- don't wait in a circle.
+-- Each stage of an order of a quiet history keeps it so that no two parked record requests are of one owner, and that
+-- owners don't wait in a circle.
 use Rattle.std.proofs.Common.{◌≡◌, ◌≢◌, ℕ, zero, suc, ◌<◌, Bool, true, false, ◌&&◌, ◌||◌, not, ◌==◌, cond, ◌⊎◌, inl}
 use Rattle.std.proofs.Common.{inr, ⊎_elim, Option, Some, None, option_map, List, [], ◌∷◌, ◌++◌}
 use Rattle.std.proofs.Common.{slice_index_or, length, refl, ap, sym, ◌∙◌, subst, arith}

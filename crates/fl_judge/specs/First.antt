@@ -8,7 +8,8 @@ use Rattle.fl_trace.specs.Text.{text_of, Fits}
 abbrev pub IsWithin : Option ℕ → ℕ → Type 0
 IsWithin most n = IfSome most (λ m. n ≤ m)
 
--- A text begins with these lines, which are as many as are wanted, or fewer. If they are fewer, no newline follows them.
+-- A text begins with these lines, which are as many as are wanted, or fewer. If they are fewer, no newline follows
+-- them.
 pub record AreFirstLines (most : Option ℕ) (text : List ℕ) (lines : List Line) : Type 0 where
   pub rest : List ℕ
   pub parts : text ≡ text_of lines ++ rest

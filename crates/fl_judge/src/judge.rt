@@ -101,8 +101,8 @@ impl Judge {
         }
     }
 
-    /// Where the lines that it heard break its rules, what it heard there, and what these want; none if they are a legal
-    /// history.
+    /// Where the lines that it heard break its rules, what it heard there, and what these want; none if they are a
+    /// legal history.
     pub fn difference(&self) -> Option<Difference>
         ensures { IsDifferenceOf self.now.rules self.now.lines result }
     {

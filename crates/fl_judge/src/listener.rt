@@ -46,8 +46,8 @@ pub(crate) struct Listener {
 }
 
 impl Listener {
-    /// Nothing came yet, and these are the rules. It hears so many lines at most, or all, and keeps the last of them, or
-    /// none.
+    /// Nothing came yet, and these are the rules. It hears so many lines at most, or all, and keeps the last of them,
+    /// or none.
     pub(crate) fn new(
         alloc: Global,
         rules: Rules,

@@ -1,5 +1,5 @@
-//! Both texts of a file whose name isn't known, which no program lists. `tests/locks/listing.py` and `tests/locks/ranges.py` have
-//! the others.
+//! Both texts of a file whose name isn't known, which no program lists. `tests/locks/listing.py` and
+//! `tests/locks/ranges.py` have the others.
 
 use crate::{Blockers, LockRow, lock_json, lock_table};
 use fl_ranges::{Class, Key, Kind, LAST_BYTE, Mark};

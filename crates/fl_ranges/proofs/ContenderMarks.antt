@@ -1,4 +1,5 @@
--- Of which owners a run conflicts with a lock, on a walk along the rows of its class on its node and along owners in order.
+-- Of which owners a run conflicts with a lock, on a walk along the rows of its class on its node and along owners in
+-- order.
 use Rattle.std.proofs.Common.{◌≡◌, ◌≢◌, ℕ, ◌+◌, ◌<◌, ◌≤◌, Bool, true, false, cond, ◌&&◌, ◌||◌, ◌==◌, Some, None}
 use Rattle.std.proofs.Common.{is_some, inl, inr, List, [], ◌∷◌}
 use Rattle.std.proofs.Common.{drop, length, slice_get, slice_index_or, refl, ap, sym, ◌∙◌, arith}

@@ -1,4 +1,5 @@
--- The rows of a class on a node stand one after another, and no other run conflicts with a lock of their class and node.
+-- The rows of a class on a node stand one after another, and no other run conflicts with a lock of their class and
+-- node.
 use Rattle.std.proofs.Common.{◌≡◌, ◌≢◌, ℕ, zero, suc, ◌+◌, ◌<◌, ◌≤◌, Bool, true, false, cond, not, ◌&&◌, ◌||◌, ◌==◌}
 use Rattle.std.proofs.Common.{nat_lt, nat_le, Option, Some}
 use Rattle.std.proofs.Common.{None, List, [], ◌∷◌}

@@ -1,4 +1,5 @@
--- A table in rows once one key's row has other spans: it is one again, with as many runs more, and other marks of that key alone.
+-- A table in rows once one key's row has other spans: it is one again, with as many runs more, and other marks of that
+-- key alone.
 use Rattle.std.proofs.Common.{◌≡◌, ◌≢◌, ℕ, ◌+◌, ◌<◌, ◌≤◌, Bool, true, false, cond, ◌&&◌, ◌==◌, nat_le, Option, List, []}
 use Rattle.std.proofs.Common.{◌∷◌, map, length, get_or}
 use Rattle.std.proofs.Common.{set, refl, ap, sym, ◌∙◌, subst, arith, length-append, sum_by}

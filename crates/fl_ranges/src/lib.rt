@@ -4,9 +4,9 @@
 //! long as they can be. A run's slot takes 48 bytes, and a key's 56. A change is refused for the runs that it would
 //! leave, and never for slots that it needs on the way.
 //!
-//! Left open: which slot has which run, and how many runs a walk looks at. `tests/locks/ranges.py` compares what the built
-//! program sets, refuses, names and lists with a plain grid of bytes, with 1 to 300 owners of a file, and fills tables
-//! of up to 65,536 runs. `fl_ranges_tests` has where slots are.
+//! Left open: which slot has which run, and how many runs a walk looks at. `tests/locks/ranges.py` compares what the
+//! built program sets, refuses, names and lists with a plain grid of bytes, with 1 to 300 owners of a file, and fills
+//! tables of up to 65,536 runs. `fl_ranges_tests` has where slots are.
 #![tactic(auto)]
 
 mod asked;

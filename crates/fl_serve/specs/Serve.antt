@@ -53,8 +53,8 @@ some_is [] = false
 some_is (b ∷ bs) = b || some_is bs
 
 -- The orders of the messages are those that the workers took, each as often. Each of these was handed in, looked for or
--- refused. The history has no order but those that were handed in, and these are stored with their replies. `refused` is
--- true exactly if some order was refused.
+-- refused. The history has no order but those that were handed in, and these are stored with their replies. `refused`
+-- is true exactly if some order was refused.
 pub record AreDone (workers : ℕ) (rules : Rules) (messages : List (List ℕ)) (stored : List Line) (parts : List Part)
     (done : Done) : Type 0 where
   pub whose : map (λ part. part.worker) parts ≡ range_with_len 0 workers
@@ -90,9 +90,9 @@ pub record HasNoHistory (done : Done) : Type 0 where
 
 -- What was read is whole messages and a rest of at most 8192 bytes, and no message came after one that ended the
 -- session. What was written behind what the writer held are the bytes of a log of what was given to be sent, whole
--- replies; after a failed write (`broken`), a prefix of them. The log is as `AreAllGiven` says, the fault is that of the
--- end, and each order of the messages was answered, as `AreDone` says. `stored` are the lines that are stored then. At
--- NoMemory nothing was read, and there is no history. At NoReader neither the history nor the log can be told.
+-- replies; after a failed write (`broken`), a prefix of them. The log is as `AreAllGiven` says, the fault is that of
+-- the end, and each order of the messages was answered, as `AreDone` says. `stored` are the lines that are stored then.
+-- At NoMemory nothing was read, and there is no history. At NoReader neither the history nor the log can be told.
 pub record IsServedBy (workers : ℕ) (rules : Rules) (streams : Streams) (stored : List Line) (done : Done)
     : Type 0 where
   pub messages : List (List ℕ)

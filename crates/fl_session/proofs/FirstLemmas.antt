@@ -1,4 +1,5 @@
--- Sessions that know messages that are sent again, beside those that don't, and sessions that answered something before.
+-- Sessions that know messages that are sent again, beside those that don't, and sessions that answered something
+-- before.
 use Rattle.std.proofs.Common.{◌≡◌, ℕ, Bool, true, false, List, [], ◌∷◌, ◌++◌, drop, map, Option, None, Some}
 use Rattle.std.proofs.Common.{refl, sym, ap, ◌∙◌, append_assoc}
 use Rattle.std.specs.Prelude.{◌^◌, nat_le, if◌then◌else◌}

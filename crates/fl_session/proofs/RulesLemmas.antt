@@ -1,5 +1,5 @@
--- What stays of a session from message to message: its rules, whether it knows messages that are sent again, and how far
--- the messages alone bring it.
+-- What stays of a session from message to message: its rules, whether it knows messages that are sent again, and how
+-- far the messages alone bring it.
 use Rattle.std.proofs.Common.{◌≡◌, ℕ, Bool, true, false, List, [], ◌∷◌, drop, Option, None, Some, refl, ap, ◌∙◌}
 use Rattle.std.specs.Prelude.{fold, if◌then◌else◌}
 use Rattle.fl_desk.specs.Replay.{state_after}

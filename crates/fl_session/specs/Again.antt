@@ -7,8 +7,8 @@ use Rattle.fl_transport.specs.declared.handshake.Incoming.TheVariants as incomin
 use Rattle.fl_transport.specs.declared.response.Response.{Response}
 use Rattle.fl_transport.specs.declared.response.Response.TheVariants.{Nothing, Init, One, Replies}
 
--- The unique without its mark, if it is that of a message that is sent again: these have bit 63 set. A session knows such
--- messages, or doesn't.
+-- The unique without its mark, if it is that of a message that is sent again: these have bit 63 set. A session knows
+-- such messages, or doesn't.
 abbrev pub unmarked : Bool → ℕ → Option ℕ
 unmarked resends unique = if resends && nat_le (2 ^ 63) unique then Some (unique - 2 ^ 63) else None
 

@@ -62,8 +62,8 @@ pub record IsUnknown (s : Session) (unique : ℕ) : Type 0 where
   pub free : is_parked unique (state_after s.rules s.lines).view.parked ≡ false
   pub unsaid : recalled unique (recent s.lines) ≡ recall.Asked 0
 
--- Each of these messages is unknown to a session that goes on by those before it. The others are the same messages with a
--- mark, and their orders are refused or not as those of these.
+-- Each of these messages is unknown to a session that goes on by those before it. The others are the same messages with
+-- a mark, and their orders are refused or not as those of these.
 abbrev pub AreNew : Session → List Came → List Came → Type 0
 AreNew s [] [] = ⊤
 AreNew s [] (m ∷ marked) = ⊥

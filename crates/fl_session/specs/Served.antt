@@ -19,9 +19,9 @@ abbrev pub AreSent : Bool → List ℕ → List (List ℕ) → Type 0
 AreSent false sent replies = sent ≡ concat replies
 AreSent true sent replies = IsProperPrefix sent (concat replies)
 
--- What was read is whole messages and a rest of at most 8192 bytes. The history is the lines of the session that began so
--- and goes on by these messages, and its replies were written, each of which says its own length: all of them, or after a
--- failed write (`broken`) a prefix. If lines can't be stored, it ends behind any message.
+-- What was read is whole messages and a rest of at most 8192 bytes. The history is the lines of the session that began
+-- so and goes on by these messages, and its replies were written, each of which says its own length: all of them, or
+-- after a failed write (`broken`) a prefix. If lines can't be stored, it ends behind any message.
 pub record IsServedFrom (first : Session) (streams : Streams) (broken : Bool) (done : Done) : Type 0 where
   pub came : List Came
   pub rest : List ℕ

@@ -23,8 +23,8 @@ use Rattle.fl_waiting.specs.declared.rules.Rules.{Rules}
 use Rattle.fl_wire.specs.Layout.{unique_of}
 use Rattle.fl_wire.specs.Spell.{spelling_of}
 
--- A message that came, and for each of its orders that is new, in their order, whether it was refused because memory ran
--- out. If the list ends early, the orders left were not refused.
+-- A message that came, and for each of its orders that is new, in their order, whether it was refused because memory
+-- ran out. If the list ends early, the orders left were not refused.
 pub record Came : Type 0 where
   pub message : List ℕ
   pub refused : List Bool
@@ -33,8 +33,9 @@ pub record Came : Type 0 where
 abbrev pub messages_of : List Came → List (List ℕ)
 messages_of came = map (λ c. c.message) came
 
--- A session so far: the rules by which requests wait, whether it knows messages that are sent again, how far its messages
--- brought it, the bytes of each reply, the lines of its orders, and whether some order was refused because memory ran out.
+-- A session so far: the rules by which requests wait, whether it knows messages that are sent again, how far its
+-- messages brought it, the bytes of each reply, the lines of its orders, and whether some order was refused because
+-- memory ran out.
 pub record Session : Type 0 where
   pub rules : Rules
   pub resends : Bool

@@ -1,9 +1,9 @@
 //! Laws of the definitions, in the words of their subject. Each is the contract of an empty function.
 //!
-//! The first three say what a server that was killed leaves, and from what the next one goes on. Five say what a session
-//! does that goes on behind the lines of one that was cut off. The others say how its client meets their conditions: it
-//! uses each unique for one message, and sends again, with a mark, each that it has no reply for and whose order or
-//! reply is among the last 65,536 lines, or whose request is parked, or that is new.
+//! The first three say what a server that was killed leaves, and from what the next one goes on. Five say what a
+//! session does that goes on behind the lines of one that was cut off. The others say how its client meets their
+//! conditions: it uses each unique for one message, and sends again, with a mark, each that it has no reply for and
+//! whose order or reply is among the last 65,536 lines, or whose request is parked, or that is new.
 
 ghost use Rattle.std.specs.Prelude.{◌≡◌, ◌≤◌, ℕ, ◌+◌, Bool, true, false, All, Contains, List, [], ◌∷◌, ◌++◌, length, take};
 ghost use Rattle.std.specs.Prelude.{drop, replicate, Some};
@@ -38,9 +38,9 @@ use fl_core::laws::settling_answers_the_oldest_first;
 use fl_desk::laws::{a_legal_history_goes_on_by_orders, own_reply_comes_first};
 
 /// A server was killed. The lines that it stored are a prefix of its history, and they have all lines of its first
-/// messages: of those whose replies its client got, by `IsAheadFrom`. With the replies that they lack they are legal. Then
-/// these are the lines of a session that took the first messages, some of the others, and perhaps a part of a batch. The
-/// laws below speak of such a session. If no order of the part was refused, it is a `part_of`.
+/// messages: of those whose replies its client got, by `IsAheadFrom`. With the replies that they lack they are legal.
+/// Then these are the lines of a session that took the first messages, some of the others, and perhaps a part of a
+/// batch. The laws below speak of such a session. If no order of the part was refused, it is a `part_of`.
 pub fn what_a_cut_session_leaves_is_a_session()
     ensures left { (rules : Rules) (first others : List Came) (lines : List Line) (missing : List Told)
         → IsPrefix (session_of rules first).lines lines → IsPrefix lines (session_of rules (first ++ others)).lines

@@ -101,9 +101,9 @@ impl<W: Write, J: Journal> Replying<'_, W, J> {
         }
     }
 
-    /// Collects what an order in the midst of a message is answered, and writes nothing. What finds no room is lost, with
-    /// all that was collected and all that comes later. FUSE has such orders in a batch of FORGETs alone, and they get no
-    /// reply.
+    /// Collects what an order in the midst of a message is answered, and writes nothing. What finds no room is lost,
+    /// with all that was collected and all that comes later. FUSE has such orders in a batch of FORGETs alone, and they
+    /// get no reply.
     pub(crate) fn keep(&mut self, response: &Response)
         ensures same { (writer_of self.new.batch.out).ghost_name ≡ (writer_of self.old.batch.out).ghost_name }
         ensures held { W.contents (writer_of self.new.batch.out).now ≡ W.contents (writer_of self.old.batch.out).now }

@@ -65,8 +65,8 @@ pub fn run_session<R: Read, W: Write>(alloc: Global, r: &mut R, w: &mut W, rules
 }
 
 /// The same, but its lines go to this journal, which has none so far. The journal comes back with them, except at
-/// `NoMemory`: then it is dropped, and nothing was read or written. It is flushed before each read, and before replies go
-/// out: if it can't store its lines then, no reply that waits goes out, and the session ends.
+/// `NoMemory`: then it is dropped, and nothing was read or written. It is flushed before each read, and before replies
+/// go out: if it can't store its lines then, no reply that waits goes out, and the session ends.
 pub fn record_session<R: Read, W: Write, J: Journal + Drop>(
     alloc: Global,
     r: &mut R,
@@ -104,8 +104,8 @@ pub fn record_session<R: Read, W: Write, J: Journal + Drop>(
 }
 
 /// The same, but the session goes on behind the lines of a desk that has these rules, and knows messages that are sent
-/// again (`FUSE_UNIQUE_RESEND`). `recent` has the same lines. The journal comes back, and the history is all its lines. If
-/// memory runs out, the desk is dropped, and nothing was read or written.
+/// again (`FUSE_UNIQUE_RESEND`). `recent` has the same lines. The journal comes back, and the history is all its lines.
+/// If memory runs out, the desk is dropped, and nothing was read or written.
 pub fn resume_session<R: Read, W: Write, J: Journal + Drop>(
     alloc: Global,
     r: &mut R,

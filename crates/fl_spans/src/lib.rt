@@ -6,8 +6,8 @@
 //! once, by `Rows::new`. In both arenas no slot is linked twice (`Rows::keeps_links`).
 //!
 //! Left open: which slot has which run, which head has which chain, and how many spans a walk looks at. A `find` that
-//! goes on after the range gives the same answer. `tests/locks/ranges.py` compares the locks of the built program with a
-//! plain grid of bytes.
+//! goes on after the range gives the same answer. `tests/locks/ranges.py` compares the locks of the built program with
+//! a plain grid of bytes.
 #![tactic(auto)]
 
 mod change;

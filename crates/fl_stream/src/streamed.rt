@@ -21,8 +21,8 @@ use std::marker::Model;
 /// So many lines at the most find room one after another before their text is written.
 const MOST_LINES: usize = 2048;
 
-/// Before an order is taken while so many bytes wait, they are written, but not at `Refuse`. So at most some 64 KB wait,
-/// and the lines of one order.
+/// Before an order is taken while so many bytes wait, they are written, but not at `Refuse`. So at most some 64 KB
+/// wait, and the lines of one order.
 const MOST_WAITING: usize = 60 * 1024;
 
 /// Lines that go to a writer as their text, as `print_trace` spells it. The text waits in a room of some 1.4 megabytes,
@@ -302,8 +302,8 @@ impl<W: Write> Journal for Streamed<W> {
 
     ghost room = { λ s. s.room };
 
-    // If it goes on without its writer, no order is refused. At `Refuse` each batch of orders is stored before its replies
-    // leave, so nothing waits unless a write failed.
+    // If it goes on without its writer, no order is refused. At `Refuse` each batch of orders is stored before its
+    // replies leave, so nothing waits unless a write failed.
     fn reserve(&mut self, count: usize) -> Result<(), NoMemory>
         requires few { count ≤ 2048 }
         ensures lines { self.new.lines ≡ self.old.lines }

@@ -1,8 +1,8 @@
 //! What the tests of several crates need: writers over memory that fail when they are told to, stored texts, messages
 //! that are laid out, replies that are read, and some sessions as text.
 //!
-//! A `Sink` fails at exactly the writes that its `Trouble` names, and counts all. Contracts let through a call that asks
-//! for memory and is always refused.
+//! A `Sink` fails at exactly the writes that its `Trouble` names, and counts all. Contracts let through a call that
+//! asks for memory and is always refused.
 #![tactic(auto)]
 
 mod messages;

@@ -28,8 +28,8 @@ pub enum Fault {
     /// was shown. Only a session with workers ends so.
     #[error("no reader")]
     NoReader,
-    /// Lines of orders couldn't be stored, so that their replies may not leave. Only a session whose journal writes ahead ends
-    /// so.
+    /// Lines of orders couldn't be stored, so that their replies may not leave. A session ends so only if its journal
+    /// is fallible.
     #[error("trace failed")]
     Unstored,
 }

@@ -44,8 +44,8 @@ contains (x ∷ xs) s (inr h) = let c = contains xs s h in (suc c.0, omega arith
 stands : {A : Type 0} (xs : List A) (s : A) → Contains xs s → Stands xs s
 stands xs s c = stands_at xs s c.0 c.1 c.2
 
--- What leads from a request a to the owner of s, and what leads from s to q, by or without the first request r. Each name
--- says from where to where.
+-- What leads from a request a to the owner of s, and what leads from s to q, by or without the first request r. Each
+-- name says from where to where.
 meet : (a_s a_r r_s s_q s_r r_q a_q : Bool) → (a_s ≡ true → s_q ≡ true → a_q ≡ true) → (a_s ≡ true → s_r ≡ true → a_r ≡ true)
     → (r_s ≡ true → s_q ≡ true → r_q ≡ true)
     → (a_s ≡ true) ⊎ ((a_r ≡ true) × (r_s ≡ true)) → (s_q ≡ true) ⊎ ((s_r ≡ true) × (r_q ≡ true)) → (a_q || (a_r && r_q)) ≡ true

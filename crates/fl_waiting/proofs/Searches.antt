@@ -72,8 +72,8 @@ unset_part (suc k) zero i = refl
 unset_part (suc k) (suc n) zero = refl
 unset_part (suc k) (suc n) (suc i) = unset_part k n i
 
--- Owners that are reached are led to. Those in the way of the request are reached, and those in the way of a request that
--- was visited; and none that was visited waits for the one who asks.
+-- Owners that are reached are led to. Those in the way of the request are reached, and those in the way of a request
+-- that was visited; and none that was visited waits for the one who asks.
 pub record IsSearching (most : ℕ) (blocks : Wanted → ℕ → Bool) (ws : List Wanted) (asked : Wanted) (reached visited : List Bool) : Type 0 where
   pub long : length visited ≡ most
   pub wide : length reached ≡ length ws

@@ -2,8 +2,8 @@
 //! function of `lockd_commands` or of `lockd_serve`. Where a trace goes, and whether orders are refused when its file
 //! can't be written, are contracts (`opened`, `when_full`). Contracts let through:
 //! - a `run` that runs another command than is asked for;
-//! - a function of a command (`script` .. `drive`, `serve`, `serve_opened`, `resume`) that gives it other rules, flags or
-//!   workers, another path, or another trace than `opened` made;
+//! - a function of a command (`script` .. `drive`, `serve`, `serve_opened`, `resume`) that gives it other rules, flags
+//!   or workers, another path, or another trace than `opened` made;
 //! - an `opened` or a `resume` whose file is at another path, or that is always refused; a `made` that writes over a
 //!   file that is there, or one of them that doesn't append;
 //! - a `remove_unused` that takes away the trace's file of a session that was served, or leaves one of none;

@@ -3,9 +3,9 @@
 //! A server has 1 to 16 workers (`workers`), and `Rules` keeps the other limits in its type. A private contract,
 //! `asked_by`, says what is asked for by the command and the texts that `clap` found: the socket, the workers, the
 //! trace, the file of `--resume`, `--trace-full`, `--quiet`, `--cut` and the rules. `is_verbose` says the same of
-//! `--verbose`, and `serve_of` when the word of `--trace-full` doesn't fit the trace. `read_words` repeats none of them.
-//! `clap` doesn't state which words it takes for which text, if options and commands exclude each other, as they do
-//! here. Contracts let through:
+//! `--verbose`, and `serve_of` when the word of `--trace-full` doesn't fit the trace. `read_words` repeats none of
+//! them. `clap` doesn't state which words it takes for which text, if options and commands exclude each other, as they
+//! do here. Contracts let through:
 //! - a `print_version` that always fails, and another version;
 //! - a `read_words` that refuses everything, or doesn't ask `line_of`;
 //! - a `command` with an option that has another name, another range, another default, or none of them;

@@ -9,10 +9,11 @@
 //! - a `check_on` or a `locks_on` that gives other details of its lines, or none (`tests/commands/words.py`);
 //! - a `drive_on` that sends nothing, connects elsewhere, waits before it sends, doesn't close, or says `no memory`
 //!   at an empty path;
-//! - a `drive_on` that prints replies which didn't come from the socket (`try_stored_replies` in `tests/serve/sockets.py`);
+//! - a `drive_on` that prints replies which didn't come from the socket (`try_stored_replies` in
+//!   `tests/serve/sockets.py`);
 //! - one that says another reason why it isn't connected, or none (`tests/commands/words.py`);
-//! - a `Kept` that keeps another text, and an `explain_trace`, `explain_script`, `explain_hex` or `explain_streams` that
-//!   says anything else (`tests/commands/words.py`, `tests/commands/texts.py`).
+//! - a `Kept` that keeps another text, and an `explain_trace`, `explain_script`, `explain_hex` or `explain_streams`
+//!   that says anything else (`tests/commands/words.py`, `tests/commands/texts.py`).
 //!
 //! `fl_stream_tests`, and the scripts of `tests/commands`, `tests/locks` and `tests/serve` refuse these.
 //!

@@ -1,8 +1,8 @@
 //! How a command ends, and what it tells; whole inputs and outputs; a trace that is printed; lines of a text and
 //! lines of hex; why a line is bad; streams that keep what went wrong.
 //!
-//! `print_fault` and `end` wrote the fault's line or a beginning of it, the empty one too, and their signatures give them no
-//! memory. Contracts see no failure of a reader or a writer. They let through:
+//! `print_fault` and `end` wrote the fault's line or a beginning of it, the empty one too, and their signatures give
+//! them no memory. Contracts see no failure of a reader or a writer. They let through:
 //! - a `read_all`, a `write_all`, a `print` or a `read_line` that is always refused;
 //! - a `write_all` or a `print` that doesn't flush its output, or takes a flush that failed for a good one;
 //! - a `print_fault` that prints nothing;

@@ -15,7 +15,8 @@ use Rattle.lockd_faults.specs.declared.fault.CommandFault.{CommandFault}
 use Rattle.lockd_faults.specs.declared.fault.CommandFault.TheVariants as command
 use Rattle.lockd_serve.specs.Ending.{Ending, Ends, EndsUntraced, told_of}
 
--- No legal history begins with the whole lines of a text, and the line of this number is the first that breaks the rules.
+-- No legal history begins with the whole lines of a text, and the line of this number is the first that breaks the
+-- rules.
 pub record DiffersIn (rules : Rules) (text : List ℕ) (n : ℕ) : Type 0 where
   pub lines : List Line
   pub bytes : ℕ

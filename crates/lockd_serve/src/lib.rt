@@ -29,7 +29,8 @@
 //! - a server that tells its observer something else than what it does, or nothing, or another reason.
 //!
 //! These tests refuse most of them:
-//! - sessions of each kind, over a socket: `tests/serve/sockets.py`, `tests/serve/sessions.py`, `tests/serve/workers.py`;
+//! - sessions of each kind, over a socket: `tests/serve/sockets.py`, `tests/serve/sessions.py`,
+//!   `tests/serve/workers.py`;
 //! - traces, files that go or can't be written, and `when_full`: `tests/serve/traces.py`;
 //! - `resume_on`, its file and old sockets: `tests/serve/sessions.py`, `tests/resume/kills.py`,
 //!   `tests/resume/files.py`;

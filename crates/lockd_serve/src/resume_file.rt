@@ -30,17 +30,17 @@ use std::net::Net;
 use std::path::Path;
 use std::time::Clock;
 
-/// `lockd serve --resume`: goes on behind the lines of a trace's file, under these rules, with one worker. It listens as
-/// `serve_on` does, but a socket's file at the path is replaced if nobody listens at it. Nothing was read of the file,
-/// which gets what is written behind what it has, and `name` is its path. If another server has it, or it isn't there
-/// any more, the fault is `Trace`.
+/// `lockd serve --resume`: goes on behind the lines of a trace's file, under these rules, with one worker. It listens
+/// as `serve_on` does, but a socket's file at the path is replaced if nobody listens at it. Nothing was read of the
+/// file, which gets what is written behind what it has, and `name` is its path. If another server has it, or it isn't
+/// there any more, the fault is `Trace`.
 ///
-/// What follows the file's last newline is cut off, and the replies that its last order lacks are written to it. Then the
-/// lines of each order are written before any of its replies leaves. While a write fails, `when` says what happens, and
-/// `notices` gets a line of it. If no legal history begins with the file's lines, it stays as it is, `faults` gets `bad
-/// line` or `differs` with the line's number, and nobody is served. A fault of the session is one line on `faults`, and
-/// behind it `trace failed` if the file lacks lines, or is gone. The observer is told what the server does, and after
-/// `cannot listen` and `cannot trace` why it serves nobody.
+/// What follows the file's last newline is cut off, and the replies that its last order lacks are written to it. Then
+/// the lines of each order are written before any of its replies leaves. While a write fails, `when` says what happens,
+/// and `notices` gets a line of it. If no legal history begins with the file's lines, it stays as it is, `faults` gets
+/// `bad line` or `differs` with the line's number, and nobody is served. A fault of the session is one line on
+/// `faults`, and behind it `trace failed` if the file lacks lines, or is gone. The observer is told what the server
+/// does, and after `cannot listen` and `cannot trace` why it serves nobody.
 pub fn resume_on<R: Net + Files + Clock, F: Write, N: Write + Drop, O: Observer>(
     rt: &R,
     alloc: Global,
@@ -178,8 +178,8 @@ pub fn resumed_from<S: Read>(
     })
 }
 
-// What a server goes on from behind the lines that a judge heard. The fault is the line that differs, if no legal history
-// begins with them.
+// What a server goes on from behind the lines that a judge heard. The fault is the line that differs, if no legal
+// history begins with them.
 fn gone_on(judge: Judge) -> Result<Resumed, CommandFault>
     ensures past { IfOk result (λ r. r.past.items ≡ judge.lines) }
     ensures kept { IfOk result (λ r. IsKept (judge.lines ++ told_lines r.missing) r.present) }

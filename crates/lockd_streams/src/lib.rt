@@ -1,5 +1,5 @@
-//! What a server reads and writes, beside its sessions: the socket that it listens at, a reader that spins, writers that
-//! try again, a trace's file; and what it tells of itself.
+//! What a server reads and writes, beside its sessions: the socket that it listens at, a reader that spins, writers
+//! that try again, a trace's file; and what it tells of itself.
 //!
 //! Contracts see no failure of a reader or a writer, and no file system. They let through:
 //! - a `connection` that first removes what stands at the path;

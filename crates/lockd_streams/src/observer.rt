@@ -14,15 +14,15 @@ pub trait Observer {
     /// A client is connected.
     fn connected(&mut self);
 
-    /// The session is over, and this is what became of its client. If a write to it failed, `unwritten` says why the last
-    /// one did.
+    /// The session is over, and this is what became of its client. If a write to it failed, `unwritten` says why the
+    /// last one did.
     fn ended(&mut self, client: Parting, unwritten: Option<ErrorKind>);
 
     /// The lines of the trace's file were read, and it goes on behind them.
     fn resumed(&mut self);
 
-    /// The lines of the trace's file were read, and it doesn't go on behind them. The fault of this status was told, and
-    /// these are the details of the lines.
+    /// The lines of the trace's file were read, and it doesn't go on behind them. The fault of this status was told,
+    /// and these are the details of the lines.
     fn unresumed(&mut self, alloc: Global, status: Status, details: &Details);
 
     /// No connection came, for this reason: `InvalidInput` at an empty path. `cannot listen` was told.

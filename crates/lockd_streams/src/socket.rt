@@ -59,8 +59,8 @@ struct FoundFile {
     inode: u64,
 }
 
-// Takes a socket's file at a path away, if nobody listens at it: Linux lists no socket of this path, and a connection is
-// refused. Linux lists paths as they were given, so of one that isn't absolute the connection alone decides. Whoever
+// Takes a socket's file at a path away, if nobody listens at it: Linux lists no socket of this path, and a connection
+// is refused. Linux lists paths as they were given, so of one that isn't absolute the connection alone decides. Whoever
 // listens by another spelling of the path, or in another network, gets this connection.
 fn remove_stale<R: Net + Files>(rt: &R, alloc: Global, path: Path<'_>) {
     if path.as_str().as_bytes().first() == Some(&b'/') && is_listed(rt, alloc, path.as_str()) {

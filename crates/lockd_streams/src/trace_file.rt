@@ -12,7 +12,8 @@ use std::io::Write;
 use std::os::unix::fs::MetadataExt;
 use std::path::Path;
 
-/// Whether the file at a path is this one: the same inode of the same device. It isn't, if the file system doesn't tell.
+/// Whether the file at a path is this one: the same inode of the same device. It isn't, if the file system doesn't
+/// tell.
 pub fn is_at<R: Files, T: OpenFile>(rt: &R, path: Path<'_>, file: &T) -> bool {
     match (fs::metadata(rt, path), file.metadata()) {
         (Ok(found), Ok(own)) => found.dev() == own.dev() && found.ino() == own.ino(),
@@ -20,8 +21,8 @@ pub fn is_at<R: Files, T: OpenFile>(rt: &R, path: Path<'_>, file: &T) -> bool {
     }
 }
 
-/// The status of a server that ended with this one, and whose trace's file is gone: `faults` gets `trace failed`, if that
-/// wasn't told.
+/// The status of a server that ended with this one, and whose trace's file is gone: `faults` gets `trace failed`, if
+/// that wasn't told.
 pub fn end_without_file<F: Write>(faults: &mut F, status: Status) -> Status
     ensures good { status ≡ Status.Good → result ≡ Status.Faulted CommandFault.TraceFailed }
     ensures bad { status ≢ Status.Good → result ≡ status }

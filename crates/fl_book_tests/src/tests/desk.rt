@@ -1,5 +1,5 @@
-//! A desk and its history, the text of histories, and what is said of them. `tests/commands/check.py` tries the same with many
-//! texts, over the built program.
+//! A desk and its history, the text of histories, and what is said of them. `tests/commands/check.py` tries the same
+//! with many texts, over the built program.
 
 ghost use Rattle.fl_core.specs.Tolds.{HasRoom};
 

@@ -16,8 +16,8 @@ use Rattle.fl_workers.specs.declared.entry.ReplyEntry.{ReplyEntry}
 use Rattle.fl_workers.specs.declared.receiver.Received.{Received}
 use Rattle.fl_workers.specs.declared.room.BatchRoom.{BatchRoom}
 
--- Workers can run with these: nothing was read, nothing was put into this intake, of which these are fresh ends, and each
--- room has a place for a batch under these rules.
+-- Workers can run with these: nothing was read, nothing was put into this intake, of which these are fresh ends, and
+-- each room has a place for a batch under these rules.
 pub record CanRun (rules : Rules) (of : TableId) (inbox : Inflow) (put : PutSide) (ends : List TakeSide)
     (rooms : List BatchRoom) : Type 0 where
   pub unread : IsUnread inbox

@@ -12,8 +12,8 @@ use Rattle.fl_transport.specs.Handshake.{opening}
 use Rattle.fl_waiting.specs.Waiting.{is_parked}
 use Rattle.fl_waiting.specs.declared.rules.Rules.{Rules}
 
--- The session that a server keeps, by the rules of its desk, and that got these replies. It knows messages that are sent
--- again if the server recalls lines.
+-- The session that a server keeps, by the rules of its desk, and that got these replies. It knows messages that are
+-- sent again if the server recalls lines.
 abbrev pub session_with : {K : Type 0} → Server K → List (List ℕ) → Session
 session_with server replies =
     record {
@@ -25,8 +25,8 @@ session_with server replies =
       refused = server.refused;
     }
 
--- There is room for the replies that an order gets by the rules of its desk. If the server recalls lines, these are those
--- of its desk.
+-- There is room for the replies that an order gets by the rules of its desk. If the server recalls lines, these are
+-- those of its desk.
 pub record IsReady {K : Type 0} (server : Server K) : Type 0 where
   pub room : HasRoom server.desk.present.rules server.tolds
   pub recalls : IfSome server.recent (λ lines. lines ≡ server.desk.lines)

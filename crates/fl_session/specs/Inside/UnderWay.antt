@@ -22,8 +22,9 @@ pub record Way : Type 0 where
   pub start : Option (List ℕ)
   pub out : Outgoing
 
--- What the writer holds behind what it held are replies to messages at the front of those that came, and the lines of the
--- session of these, which began as this one, are stored. (Nothing may be written, and then no line has to be stored.)
+-- What the writer holds behind what it held are replies to messages at the front of those that came, and the lines of
+-- the session of these, which began as this one, are stored. (Nothing may be written, and then no line has to be
+-- stored.)
 pub record IsAheadOf (first : Session) (start held : Option (List ℕ)) (came : List Came) (stored : List Line)
     : Type 0 where
   pub front : List Came
@@ -40,8 +41,8 @@ abbrev pub WritesBehind : Book → Book → Outgoing → Outgoing → Type 0
 WritesBehind old new before after =
     IsPrefix old.stored new.stored × ((after.held ≡ before.held) ⊎ IsPrefix new.lines new.stored)
 
--- What was read is whole messages and a rest, the server stands where the session of these messages that began so stands,
--- and its replies were written but for those that wait, or a beginning of them, behind their lines.
+-- What was read is whole messages and a rest, the server stands where the session of these messages that began so
+-- stands, and its replies were written but for those that wait, or a beginning of them, behind their lines.
 pub record IsUnderWay {K : Type 0} (first : Session) (way : Way) (server : Server K) (rest : List ℕ) : Type 0 where
   pub came : List Came
   pub began : first.handshake ≡ opening

@@ -28,8 +28,8 @@ const REPLIES: [&[u8]; 6] = [
     b"",
 ];
 
-// Replies by way of a writer that takes pieces of at most 7 bytes, and fails or takes nothing once, behind six. Five are
-// two replies, and one is the front of the third. Nothing more goes out, and a broken outbox refuses no bytes too.
+// Replies by way of a writer that takes pieces of at most 7 bytes, and fails or takes nothing once, behind six. Five
+// are two replies, and one is the front of the third. Nothing more goes out, and a broken outbox refuses no bytes too.
 fn break_once(rt: &impl Abort, alloc: Global, kind: Option<ErrorKind>) {
     let mut sink = Sink::new(alloc, 7, Trouble::once(6, kind));
     let mut outbox = Outbox::new(&mut sink);
