@@ -12,8 +12,8 @@ ghost use Rattle.fl_arena.specs.Inside.Links.{link_before};
 
 use crate::cursors::{Cursor, Full, Place};
 use crate::nodes::{
-    Ends, Member, Node, free_nodes, item_at, link_in, link_out, link_over, links_at, next_free,
-    slot_number,
+    Ends, Member, Node, copied, free_nodes, item_at, link_in, link_out, link_over, links_at,
+    next_free, slot_number,
 };
 use std::alloc::{AllocError, Global};
 use std::marker::Model;
@@ -73,6 +73,18 @@ impl<T: Copy> Arena<T> {
             ends,
             spare,
             free: slots,
+        })
+    }
+
+    /// The same arena once more. It fails only if memory runs out.
+    pub fn try_clone(&self, alloc: Global) -> Result<Arena<T>, AllocError>
+        ensures { IfOk result (λ a. a ≡ self.now) }
+    {
+        Ok(Arena {
+            nodes: copied(alloc, &self.nodes)?,
+            ends: Vec::from_slice(alloc, &self.ends)?,
+            spare: self.spare,
+            free: self.free,
         })
     }
 

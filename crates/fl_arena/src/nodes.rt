@@ -87,6 +87,18 @@ impl<T: Copy> Node<T> {
         }
     }
 
+    // A node that holds the same.
+    fn again(&self) -> Node<T>
+        ensures { result ≡ self.now }
+    {
+        Node {
+            chain: self.chain,
+            previous: self.previous,
+            next: self.next,
+            item: self.item,
+        }
+    }
+
     // The chain of its item, or none if it is free.
     pub(crate) fn chain(&self) -> Option<u16>
         ensures { result ≡ chain_in self.now }
@@ -274,6 +286,17 @@ fn relink<T: Copy>(
 {
     set_next(nodes, before, next);
     set_previous(nodes, after, previous);
+}
+
+// Nodes that hold the same.
+pub(crate) fn copied<T: Copy>(alloc: Global, from: &[Node<T>]) -> Result<Vec<Node<T>>, AllocError>
+    ensures { IfOk result (λ nodes. nodes.items ≡ from.now) }
+{
+    let mut nodes = Vec::with_capacity(alloc, from.len())?;
+    for slot in 0..from.len() {
+        nodes.push(from[slot].again())?;
+    }
+    Ok(nodes)
 }
 
 // Puts a member into the slot, and links it to those before and after it.

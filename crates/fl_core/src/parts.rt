@@ -69,6 +69,18 @@ impl Parts {
         })
     }
 
+    /// The same once more.
+    pub(crate) fn try_clone(&self, alloc: Global) -> Result<Parts, NoMemory>
+        ensures { IfOk result (λ p. p ≡ self.now) }
+    {
+        Ok(Parts {
+            rules: self.rules,
+            directory: self.directory.try_clone(alloc)?,
+            locks: self.locks.try_clone(alloc)?,
+            parked: self.parked.try_clone(alloc)?,
+        })
+    }
+
     /// What an order is answered that only reads; none for any other.
     pub(crate) fn read(&self, order: &Order) -> Option<Result<Answer, Errno>>
         ensures reads { IsSome result ↔ (only_reads order.now.op ≡ true) }

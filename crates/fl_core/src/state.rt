@@ -55,9 +55,16 @@ impl Core {
         ensures opening { IfOk result (λ s. s ≡ snapshot_of (opening rules)) }
         ensures lawful { IfOk result (λ s. IsLawful s.marking) }
     {
-        Ok(Core {
-            parts: Parts::new(alloc, rules)?,
-        })
+        let parts = Parts::new(alloc, rules)?;
+        Ok(Core { parts })
+    }
+
+    /// The same core once more. It fails only if memory runs out.
+    pub fn try_clone(&self, alloc: Global) -> Result<Core, NoMemory>
+        ensures { IfOk result (λ core. core ≡ self.now) }
+    {
+        let parts = self.parts.try_clone(alloc)?;
+        Ok(Core { parts })
     }
 
     /// Answers an order, makes its change, and answers parked requests until each waits. It leaves the replies in

@@ -81,6 +81,14 @@ pub trait Counter {
             IsPrefix (answered seat.old) (answered_by (worker seat.old) (front seat.new))) }
         ensures shown { IfOk result (λ answer. shows (front seat.new) order.now answer) };
 
+    /// Gets ready what looks read, after one for which nothing could be shown. It may wait, and takes memory. It
+    /// concerns only what later looks are shown.
+    fn warm<R: Wait>(&self, rt: &R, seat: &mut Self::Seat)
+        ensures own { worker seat.new ≡ worker seat.old }
+        ensures kept { (count seat.new ≡ count seat.old) × (answered seat.new ≡ answered seat.old) }
+        ensures stored { stored seat.new ≡ stored seat.old }
+        ensures front { front seat.new ≡ front seat.old };
+
     /// Stores what is held back: a worker has no order at hand, and waits for one. It concerns no seat.
     fn pause<R: Wait>(&self, rt: &R);
 }

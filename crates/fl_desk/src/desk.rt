@@ -92,6 +92,13 @@ impl<J: Journal> Desk<J> {
         self.present.most_tolds()
     }
 
+    /// What is there now.
+    pub fn present(&self) -> &Core
+        ensures { result.now ≡ self.now.present }
+    {
+        &self.present
+    }
+
     /// Whether a request of this unique is parked.
     pub fn has_parked(&self, unique: u64) -> bool
         ensures parked { result ≡ is_parked unique self.now.present.view.parked }

@@ -125,6 +125,17 @@ impl Dir {
         })
     }
 
+    /// The same directory once more. It fails only if memory runs out.
+    pub fn try_clone(&self, alloc: Global) -> Result<Dir, NoMemory>
+        ensures { IfOk result (λ d. d ≡ self.now) }
+    {
+        Ok(Dir {
+            nodes: self.nodes.try_clone(alloc)?,
+            names: self.names.try_clone(alloc)?,
+            files: self.files.try_clone(alloc)?,
+        })
+    }
+
     /// FUSE_LOOKUP of a name in a node: counts one more lookup of the node of this name.
     pub fn lookup(&mut self, node: u64, name: &Name) -> Result<Answer, Errno>
         ensures answer { result ≡ lookup_reply self.old node name.now }

@@ -66,6 +66,16 @@ impl Names {
         })
     }
 
+    /// The same once more.
+    pub(crate) fn try_clone(&self, alloc: Global) -> Result<Names, NoMemory>
+        ensures { IfOk result (λ made. (made.entries ≡ self.now.entries) × (made.mask ≡ self.now.mask)) }
+    {
+        Ok(Names {
+            entries: self.entries.try_clone(alloc)?,
+            mask: self.mask,
+        })
+    }
+
     /// Adds the number of a node with this name, above all numbers that are there.
     pub(crate) fn link(&mut self, name: &Name, number: u64)
         requires chains { self.old.mask + 1 ≡ length self.old.entries.chains }

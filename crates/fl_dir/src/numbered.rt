@@ -72,6 +72,17 @@ impl<T: Copy> Numbered<T> {
         })
     }
 
+    /// The same once more.
+    pub(crate) fn try_clone(&self, alloc: Global) -> Result<Numbered<T>, NoMemory>
+        ensures { IfOk result (λ made. made ≡ self.now) }
+    {
+        Ok(Numbered {
+            entries: self.entries.try_clone(alloc)?,
+            mask: self.mask,
+            next: self.next,
+        })
+    }
+
     /// The value of a number.
     pub(crate) fn get(&self, number: u64) -> Option<&T>
         ensures { option_copied result ≡ map.get self.now.values number }

@@ -83,6 +83,16 @@ impl Table {
         })
     }
 
+    /// The same table once more. It fails only if memory runs out.
+    pub fn try_clone(&self, alloc: Global) -> Result<Table, AllocError>
+        ensures { IfOk result (λ t. t ≡ self.now) }
+    {
+        Ok(Table {
+            rows: self.rows.try_clone(alloc)?,
+            limit: self.limit,
+        })
+    }
+
     /// The bytes of the range get the mark. A refusal changes nothing.
     pub fn put(&mut self, key: &Key, range: &Range, mark: Mark) -> Result<(), NoRoom>
         ensures full { IsErr result ↔

@@ -72,6 +72,17 @@ impl<K: Copy, R: Copy> Drop for Rows<K, R> {
 }
 
 impl<K: Copy, R: Copy> Rows<K, R> {
+    /// The same rows once more. It fails only if memory runs out.
+    pub fn try_clone(&self, alloc: Global) -> Result<Rows<K, R>, AllocError>
+        ensures { IfOk result (λ rows. rows ≡ self.now) }
+    {
+        Ok(Rows {
+            heads: self.heads.try_clone(alloc)?,
+            runs: self.runs.try_clone(alloc)?,
+            unused: self.unused,
+        })
+    }
+
     /// So many chains without rows, and room for so many runs. It fails only if memory runs out. The key is what
     /// the heads have that no row had yet: nothing reads it.
     pub fn new(alloc: Global, chains: usize, limit: usize, key: K) -> Result<Self, AllocError>

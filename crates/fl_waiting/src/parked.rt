@@ -75,6 +75,17 @@ impl Parked {
         })
     }
 
+    /// The same list once more. It fails only if memory runs out.
+    pub fn try_clone(&self, alloc: Global) -> Result<Parked, NoMemory>
+        ensures { IfOk result (λ parked. parked ≡ self.now) }
+    {
+        Ok(Parked {
+            claims: self.claims.try_clone(alloc)?,
+            greatest: self.greatest,
+            on_nodes: self.on_nodes,
+        })
+    }
+
     // How many wait.
     pub(crate) fn count(&self) -> usize
         ensures is { result ≡ length self.now }

@@ -206,5 +206,7 @@ impl Counter for Tally {
         seat.core.answer(order).ok_or(NoView)
     }
 
+    fn warm<R: Wait>(&self, _rt: &R, _seat: &mut Self::Seat) {}
+
     fn pause<R: Wait>(&self, _rt: &R) {}
 }
