@@ -64,11 +64,11 @@ answered_last worker lines order tolds =
 -- an order that was handed in at a seat is answered behind all that was handed in there
 pub handed_in_last : (rules : Rules) (old new : Place) (order : Order) (tolds : List Told) → new.worker ≡ old.worker
     → IsHandedIn rules old order tolds new
-    → IsAnsweredLast (answered_by old.worker old.own) order tolds (answered_by new.worker new.own)
-handed_in_last rules old new order tolds same handed = record {
-  others = answered_by old.worker handed.before;
-  had = handed.answered;
-  is = (λ i. answered_by (same i) (handed.own i)) ∙ answered_last old.worker handed.before order tolds;
+    → IsAnsweredLast (answered_by old.worker old.handed) order tolds (answered_by new.worker new.handed)
+handed_in_last rules old new order tolds same one = record {
+  others = answered_by old.worker one.before;
+  had = one.answered;
+  is = (λ i. answered_by (same i) (one.handed i)) ∙ answered_last old.worker one.before order tolds;
 }
 
 -- ---- longer histories

@@ -57,11 +57,11 @@ handed_same rules old new (o ∷ orders) (ts ∷ lists) handed =
 -- orders that were handed in at a seat are answered behind all that was handed in there
 pub handed_in_answered : (rules : Rules) (old new : Place) (orders : List Order) (lists : List (List Told))
     → AreHandedIn rules old orders lists new
-    → AreAnsweredLast (answered_by old.worker old.own) orders lists (answered_by new.worker new.own)
-handed_in_answered rules old new orders [] handed = ap (λ (p : Place). answered_by p.worker p.own) handed
+    → AreAnsweredLast (answered_by old.worker old.handed) orders lists (answered_by new.worker new.handed)
+handed_in_answered rules old new orders [] handed = ap (λ (p : Place). answered_by p.worker p.handed) handed
 handed_in_answered rules old new [] (ts ∷ lists) handed = absurd handed
 handed_in_answered rules old new (o ∷ orders) (ts ∷ lists) handed = (
-  answered_by handed.0.worker handed.0.own,
+  answered_by handed.0.worker handed.0.handed,
   handed_in_last rules old handed.0 o ts handed.1 handed.2,
   handed_in_answered rules handed.0 new orders lists handed.3,
 )
@@ -72,7 +72,7 @@ pub stored_in : (rules : Rules) (old new : Place) (order : Order) (tolds : List 
     → IsHandedIn rules old order tolds (all_stored new)
 stored_in rules old new order tolds one = record {
   before = one.before;
-  own = one.own;
+  handed = one.handed;
   legal = one.legal;
   had = one.had;
   answered = one.answered;

@@ -24,14 +24,14 @@ falls_short : (m n : ℕ) → n < m → nat_le m n ≡ false
 falls_short m n lt = grind (arith, nat_tests)
 
 -- what begins with both begins with the longer
-begins_either : (b : Bool) (seen own lines : List Line) → IsPrefix own lines → IsPrefix seen lines
-    → IsPrefix (if b then seen else own) lines
-begins_either true seen own lines had saw = saw
-begins_either false seen own lines had saw = had
+begins_either : (b : Bool) (seen handed lines : List Line) → IsPrefix handed lines → IsPrefix seen lines
+    → IsPrefix (if b then seen else handed) lines
+begins_either true seen handed lines had saw = saw
+begins_either false seen handed lines had saw = had
 
-begins_front : (place : Place) (lines : List Line) → IsPrefix place.own lines → IsPrefix place.seen lines
+begins_front : (place : Place) (lines : List Line) → IsPrefix place.handed lines → IsPrefix place.seen lines
     → IsPrefix (front_of place) lines
-begins_front place lines = begins_either (nat_le (length place.own) (length place.seen)) place.seen place.own lines
+begins_front place lines = begins_either (nat_le (length place.handed) (length place.seen)) place.seen place.handed lines
 
 -- ---- orders that were handed in
 
@@ -41,13 +41,13 @@ longer_by_step worker order tolds lines = omega (arith, length-append lines (ste
 
 -- once an order was handed in, the history up to it is the longer
 front_handed : (rules : Rules) (old new : Place) (order : Order) (tolds : List Told) → IsHandedIn rules old order tolds new
-    → front_of new ≡ new.own
+    → front_of new ≡ new.handed
 front_handed rules old new order tolds one =
     let seen : length new.seen ≤ length one.before =
     omega (arith, no_longer old.seen one.before one.saw, ap length one.seen) in
-    let longer : length new.seen < length new.own =
-    omega (arith, seen, ap length one.own, longer_by_step old.worker order tolds one.before) in
-    ap (λ b. if b then new.seen else new.own) (falls_short (length new.own) (length new.seen) longer)
+    let longer : length new.seen < length new.handed =
+    omega (arith, seen, ap length one.handed, longer_by_step old.worker order tolds one.before) in
+    ap (λ b. if b then new.seen else new.handed) (falls_short (length new.handed) (length new.seen) longer)
 
 -- each order stands behind what was handed in and shown before
 pub handed_in_behind : (rules : Rules) (old new : Place) (orders : List Order) (lists : List (List Told))
@@ -62,7 +62,7 @@ handed_in_behind rules old new (o ∷ orders) (ts ∷ lists) handed =
       one.before,
       begins_front old one.before one.had one.saw,
       subst (λ (f : List Line). AreBehind old.worker f orders lists (front_of new))
-          (front_handed rules old handed.0 o ts one ∙ one.own) rest,
+          (front_handed rules old handed.0 o ts one ∙ one.handed) rest,
     )
 
 -- ---- looks
@@ -71,9 +71,9 @@ handed_in_behind rules old new (o ∷ orders) (ts ∷ lists) handed =
 front_shown : (rules : Rules) (old new : Place) (order : Order) (answer : Result Answer Errno) → KeepsHanded old new
     → IsShown rules old order answer new → front_of new ≡ new.seen
 front_shown rules old new order answer same shown =
-    let le : length new.own ≤ length new.seen =
-    omega (arith, ap length same.own, no_longer old.own new.seen shown.had) in
-    ap (λ b. if b then new.seen else new.own) (reaches (length new.own) (length new.seen) le)
+    let le : length new.handed ≤ length new.seen =
+    omega (arith, ap length same.handed, no_longer old.handed new.seen shown.had) in
+    ap (λ b. if b then new.seen else new.handed) (reaches (length new.handed) (length new.seen) le)
 
 module _ {E : Type 0} where
   pub look_front : (rules : Rules) (old new : Place) (order : Order) (result : Result (Result Answer Errno) E)
@@ -86,9 +86,9 @@ module _ {E : Type 0} where
 
   pub look_had : (rules : Rules) (old new : Place) (order : Order) (result : Result (Result Answer Errno) E)
       → KeepsHanded old new → IfOk result (λ answer. IsShown rules old order answer new)
-      → IfOk result (λ _. IsPrefix (answered_by old.worker old.own) (answered_by old.worker (front_of new)))
+      → IfOk result (λ _. IsPrefix (answered_by old.worker old.handed) (answered_by old.worker (front_of new)))
   look_had rules old new order (Ok answer) same shown =
-      subst (λ l. IsPrefix (answered_by old.worker old.own) (answered_by old.worker l))
+      subst (λ l. IsPrefix (answered_by old.worker old.handed) (answered_by old.worker l))
       (sym (front_shown rules old new order answer same shown)) shown.answered
   look_had rules old new order (Err fault) same shown = tt
 

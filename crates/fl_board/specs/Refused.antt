@@ -8,7 +8,7 @@ use Rattle.fl_waiting.specs.declared.rules.Rules.{Rules}
 
 -- the history begins with all that the worker handed in and was shown, and with what counts as stored for it
 pub record BeginsWith (lines : List Line) (place : Place) : Type 0 where
-  pub had : IsPrefix place.own lines
+  pub had : IsPrefix place.handed lines
   pub saw : IsPrefix place.seen lines
   pub stored : IsPrefix place.stored lines
 

@@ -9,13 +9,13 @@ use Rattle.fl_history.specs.declared.history.Line.{Line}
 pub record Place : Type 0 where
   pub worker : ℕ
   pub count : ℕ
-  pub own : List Line
+  pub handed : List Line
   pub seen : List Line
   pub stored : List Line
 
 -- the longer of two histories: that up to the last order that was handed in, and the longest that was shown
 abbrev pub front_of : Place → List Line
-front_of place = if nat_le (length place.own) (length place.seen) then place.seen else place.own
+front_of place = if nat_le (length place.handed) (length place.seen) then place.seen else place.handed
 
 -- no two are of one worker
 abbrev pub AreApart : List Place → Type 0

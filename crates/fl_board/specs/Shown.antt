@@ -16,14 +16,14 @@ use Rattle.fl_waiting.specs.declared.rules.Rules.{Rules}
 -- history has as many of this worker at least.
 pub record IsHandedIn (rules : Rules) (old : Place) (order : Order) (tolds : List Told) (new : Place) : Type 0 where
   pub before : List Line
-  pub own : new.own ≡ before ++ step_lines old.worker order tolds
-  pub legal : IsLegal rules new.own
-  pub had : IsPrefix old.own before
-  pub answered : IsPrefix (answered_by old.worker old.own) (answered_by old.worker before)
+  pub handed : new.handed ≡ before ++ step_lines old.worker order tolds
+  pub legal : IsLegal rules new.handed
+  pub had : IsPrefix old.handed before
+  pub answered : IsPrefix (answered_by old.worker old.handed) (answered_by old.worker before)
   pub saw : IsPrefix old.seen before
   pub seen : new.seen ≡ old.seen
   pub count : new.count ≡ old.count + 1
-  pub recorded : new.count ≤ length (answered_by old.worker new.own)
+  pub recorded : new.count ≤ length (answered_by old.worker new.handed)
 
 -- These orders were handed in one after another at one worker's place, each with one of these lists of replies. If
 -- there are fewer lists than orders, the orders without one weren't handed in.
@@ -38,15 +38,15 @@ AreHandedIn rules old (order ∷ orders) (tolds ∷ lists) new =
 pub record KeepsHanded (old new : Place) : Type 0 where
   pub worker : new.worker ≡ old.worker
   pub count : new.count ≡ old.count
-  pub own : new.own ≡ old.own
+  pub handed : new.handed ≡ old.handed
   pub stored : new.stored ≡ old.stored
 
 -- A history that is legal under these rules was shown, which begins with all that the worker had handed in, each order
 -- with all its replies, and was shown before. The result is what the order is answered after it.
 pub record IsShown (rules : Rules) (old : Place) (order : Order) (result : Result Answer Errno)
     (new : Place) : Type 0 where
-  pub had : IsPrefix old.own new.seen
-  pub answered : IsPrefix (answered_by old.worker old.own) (answered_by old.worker new.seen)
+  pub had : IsPrefix old.handed new.seen
+  pub answered : IsPrefix (answered_by old.worker old.handed) (answered_by old.worker new.seen)
   pub saw : IsPrefix old.seen new.seen
   pub answer : IsAnsweredAfter rules new.seen order result
 
@@ -55,15 +55,15 @@ pub record IsShown (rules : Rules) (old : Place) (order : Order) (result : Resul
 pub record HaveMet (rules : Rules) (one other one_now other_now : Place) : Type 0 where
   pub legal : IsLegal rules one_now.seen
   pub same : other_now.seen ≡ one_now.seen
-  pub one_had : IsPrefix one.own one_now.seen
+  pub one_had : IsPrefix one.handed one_now.seen
   pub one_saw : IsPrefix one.seen one_now.seen
-  pub other_had : IsPrefix other.own one_now.seen
+  pub other_had : IsPrefix other.handed one_now.seen
   pub other_saw : IsPrefix other.seen one_now.seen
 
 -- The history begins with all that the worker handed in, each order with all its replies, and was shown. Its orders of
 -- this worker are those that were handed in, as many.
 pub record HasAllOf (lines : List Line) (place : Place) : Type 0 where
-  pub had : IsPrefix place.own lines
-  pub answered : IsPrefix (answered_by place.worker place.own) (answered_by place.worker lines)
+  pub had : IsPrefix place.handed lines
+  pub answered : IsPrefix (answered_by place.worker place.handed) (answered_by place.worker lines)
   pub saw : IsPrefix place.seen lines
   pub count : length (answered_by place.worker lines) ≡ place.count

@@ -120,7 +120,7 @@ impl<L: BoardName, R: Wait + Drop, J: Journal> Board<L, R, J> {
         requires rules { rules ≡ L.rules }
         ensures workers { IfOk result (λ made. map (λ seat. seat.worker) made.1.items ≡ range_with_len 0 workers) }
         ensures fresh { IfOk result (λ made.
-            All (λ seat. (seat.count ≡ 0) × (seat.own ≡ []) × (seat.seen ≡ []) × (seat.stored ≡ [])) made.1.items) }
+            All (λ seat. (seat.count ≡ 0) × (seat.handed ≡ []) × (seat.seen ≡ []) × (seat.stored ≡ [])) made.1.items) }
     {
         let (book, rest) = blank.open::<L>();
         let shared = Shared::over(alloc, rt, journal, book, log, workers as usize, rules)?;
@@ -152,7 +152,7 @@ impl<L: BoardName, R: Wait + Drop, J: Journal> Board<L, R, J> {
         requires { HasRoom L.rules tolds.old }
         ensures worker { seat.new.worker ≡ seat.old.worker }
         ensures handed { OnOk result (IsHandedIn L.rules seat.old order.now tolds.new.told seat.new) }
-        ensures stored { OnOk result (seat.new.stored ≡ seat.new.own) }
+        ensures stored { OnOk result (seat.new.stored ≡ seat.new.handed) }
         ensures room { tolds.new.room ≡ tolds.old.room }
         ensures refused { OnErr result ((seat.new ≡ seat.old) × (tolds.new ≡ tolds.old)) }
     {
@@ -188,7 +188,7 @@ impl<L: BoardName, R: Wait + Drop, J: Journal> Board<L, R, J> {
         ensures room { tolds.new.room ≡ tolds.old.room }
         ensures lists { (lists.new.room ≡ lists.old.room) × (lists.new.places ≡ lists.old.places) }
         ensures handed { AreHandedIn L.rules seat.old orders.now lists.new.lists seat.new }
-        ensures stored { 0 < length lists.new.lists → seat.new.stored ≡ seat.new.own }
+        ensures stored { 0 < length lists.new.lists → seat.new.stored ≡ seat.new.handed }
         ensures some { OnOk result (0 < length orders.now → 0 < length lists.new.lists) }
         ensures refused { OnErr result (length lists.new.lists < length orders.now) }
     {
@@ -314,7 +314,7 @@ impl<L: BoardName, R: Wait + Drop> Board<L, R> {
         requires rules { rules ≡ L.rules }
         ensures workers { IfOk result (λ made. map (λ seat. seat.worker) made.1.items ≡ range_with_len 0 workers) }
         ensures fresh { IfOk result (λ made.
-            All (λ seat. (seat.count ≡ 0) × (seat.own ≡ []) × (seat.seen ≡ []) × (seat.stored ≡ [])) made.1.items) }
+            All (λ seat. (seat.count ≡ 0) × (seat.handed ≡ []) × (seat.seen ≡ []) × (seat.stored ≡ [])) made.1.items) }
     {
         Board::over(alloc, rt, Lines::new(alloc), blank, log, workers, rules)
     }
@@ -358,7 +358,7 @@ fn seats_of<L: BoardName, R: Wait + Drop>(
     requires parts { (parts.parts ≡ workers) × (parts.amount ≡ 0) }
     ensures workers { IfOk result (λ seats. map (λ seat. seat.worker) seats.items ≡ range_with_len 0 workers) }
     ensures fresh { IfOk result (λ seats.
-        All (λ seat. (seat.count ≡ 0) × (seat.own ≡ []) × (seat.seen ≡ []) × (seat.stored ≡ [])) seats.items) }
+        All (λ seat. (seat.count ≡ 0) × (seat.handed ≡ []) × (seat.seen ≡ []) × (seat.stored ≡ [])) seats.items) }
 {
     let mut rest = parts;
     let mut seats = Vec::with_capacity(alloc, workers as usize)?;
@@ -371,7 +371,7 @@ fn seats_of<L: BoardName, R: Wait + Drop>(
             worker,
             share,
             reader,
-            own: none.again(),
+            handed: none.again(),
             seen: none.again(),
             stored: none.again(),
         });

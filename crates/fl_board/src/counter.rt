@@ -20,7 +20,7 @@ impl<L: BoardName, P: Wait + Drop, J: Journal> Counter for Board<L, P, J> {
 
     ghost worker = { λ seat. seat.worker };
 
-    ghost answered = { λ seat. answered_by seat.worker seat.own };
+    ghost answered = { λ seat. answered_by seat.worker seat.handed };
 
     ghost front = { λ seat. front_of seat };
 

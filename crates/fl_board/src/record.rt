@@ -103,7 +103,7 @@ impl<L: BoardName, R: Wait + Drop, J: Journal> Record<L, R, J> {
         ensures handed { OnOk result (IsHandedIn L.rules seat.old order.now tolds.new.told seat.new) }
         ensures few { OnOk result (length tolds.new.told ≤ L.rules.parked + 1) }
         ensures room { tolds.new.room ≡ tolds.old.room }
-        ensures all { OnOk result (history_of L.rules self.new.asks ≡ seat.new.own) }
+        ensures all { OnOk result (history_of L.rules self.new.asks ≡ seat.new.handed) }
         ensures stored { IsPrefix self.old.stored self.new.stored }
         ensures refused { OnErr result ((seat.new ≡ seat.old) × (tolds.new ≡ tolds.old)
             × (self.new.asks ≡ self.old.asks) × (self.new.shown ≡ self.old.shown)) }
@@ -131,7 +131,7 @@ impl<L: BoardName, R: Wait + Drop, J: Journal> Record<L, R, J> {
         }
         book.add(&mut seat.share, 1);
         writer.add(order, tolds.own_alone(order), &before, all);
-        seat.own = all.again();
+        seat.handed = all.again();
         Ok(())
     }
 

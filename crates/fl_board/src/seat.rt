@@ -23,7 +23,7 @@ pub struct Seat<L: BoardName> {
     pub(crate) worker: u32,
     pub(crate) share: Share<L>,
     pub(crate) reader: ReadHandle<Replica<L>>,
-    pub(crate) own: Beginning<L, Ask>,
+    pub(crate) handed: Beginning<L, Ask>,
     pub(crate) seen: Beginning<L, Ask>,
     pub(crate) stored: Beginning<L, Ask>,
 }
@@ -39,13 +39,13 @@ impl<L: BoardName> Model for Seat<L> {
     ghost view = { λ s. record {
       worker = s.worker;
       count = s.share.amount;
-      own = history_of L.rules s.own;
+      handed = history_of L.rules s.handed;
       seen = history_of L.rules s.seen;
       stored = history_of L.rules s.stored;
     } };
 
     ghost invariant = { λ s. (s.share.parts ≡ 1)
-        × (s.share.amount ≤ length (answered_by s.worker (history_of L.rules s.own))) };
+        × (s.share.amount ≤ length (answered_by s.worker (history_of L.rules s.handed))) };
 }
 
 impl<L: BoardName> Drop for Seat<L> {
@@ -55,7 +55,7 @@ impl<L: BoardName> Drop for Seat<L> {
             worker: _worker,
             share: _share,
             reader: _reader,
-            own: _own,
+            handed: _handed,
             seen: _seen,
             stored: _stored,
         } = self;
@@ -79,7 +79,7 @@ impl<L: BoardName> Seat<L> {
             worker: _worker,
             share,
             reader: _reader,
-            own: _own,
+            handed: _handed,
             seen: _seen,
             stored: _stored,
         } = self;
@@ -109,13 +109,13 @@ impl<L: BoardName> Seat<L> {
     // counts as stored.
     pub(crate) fn note_stored(&mut self, stored: &Beginning<L, Ask>) -> bool
         ensures noted { result ≡ true → self.new ≡ all_stored self.old }
-        ensures there { result ≡ true → IsPrefix self.old.own (history_of L.rules stored.now) }
+        ensures there { result ≡ true → IsPrefix self.old.handed (history_of L.rules stored.now) }
         ensures waits { result ≡ false → self.new ≡ self.old }
     {
-        if !self.own.begins(stored) {
+        if !self.handed.begins(stored) {
             return false;
         }
-        self.stored = self.own.again();
+        self.stored = self.handed.again();
         true
     }
 
@@ -131,6 +131,6 @@ impl<L: BoardName> Seat<L> {
         ensures most { result ≡ true → HasMostOf (history_of L.rules asks.now) self.now }
         ensures short { BeginsWith (history_of L.rules asks.now) self.now → result ≡ true }
     {
-        self.own.begins(asks) && self.seen.begins(asks)
+        self.handed.begins(asks) && self.seen.begins(asks)
     }
 }

@@ -85,7 +85,7 @@ impl<L: BoardName, R: Wait + Drop, J: Journal> Shared<L, R, J> {
         ensures worker { seat.new.worker ≡ seat.old.worker }
         ensures handed { OnOk result (IsHandedIn L.rules seat.old order.now tolds.new.told seat.new) }
         ensures room { tolds.new.room ≡ tolds.old.room }
-        ensures all { OnOk result (history_of L.rules self.new.asks ≡ seat.new.own) }
+        ensures all { OnOk result (history_of L.rules self.new.asks ≡ seat.new.handed) }
         ensures refused { OnErr result ((seat.new ≡ seat.old) × (tolds.new ≡ tolds.old)
             × (self.new.asks ≡ self.old.asks)) }
     {
@@ -162,7 +162,7 @@ impl<L: BoardName, R: Wait + Drop, J: Journal> Shared<L, R, J> {
     pub(crate) fn store_if_due(&mut self, seat: &mut Seat<L>) -> bool
         ensures same { self.new.asks ≡ self.old.asks }
         ensures noted { result ≡ true → seat.new ≡ all_stored seat.old }
-        ensures there { result ≡ true → IsPrefix seat.old.own (history_of L.rules self.new.stored) }
+        ensures there { result ≡ true → IsPrefix seat.old.handed (history_of L.rules self.new.stored) }
         ensures waits { result ≡ false → seat.new ≡ seat.old }
     {
         let _ = self.store_waiting();

@@ -41,12 +41,12 @@ module _ {E : Type 0} (author_of : E → ℕ) where
       ap length (by_append author xs (e ∷ []) ∙ ap (λ l. by author xs ++ l) (by_itself author e is))
       ∙ length-append (by author xs) (e ∷ [])
 
-  -- what is backed by its own beginning is backed by a longer log
-  pub most_of : (it : Appended E) (log : List E) → it.count ≤ length (by it.author it.own) → IsPrefix it.own log
+  -- what is backed by what it has of a log is backed by a longer log
+  pub most_of : (it : Appended E) (log : List E) → it.count ≤ length (by it.author it.upto) → IsPrefix it.upto log
       → HasMost author_of log it
   most_of it log backed begins = record {
     had = begins;
-    count = let more = more_by it.author it.own log begins in omega (arith, backed, more);
+    count = let more = more_by it.author it.upto log begins in omega (arith, backed, more);
   }
 
   -- ---- each entry is of one author at most

@@ -8,9 +8,13 @@ use mathlib.Core.List.{IsPrefix}
 pub record Appended (E : Type 0) : Type 0 where
   pub author : ℕ
   pub count : ℕ
-  pub own : List E
+  pub upto : List E
 
 module _ {E : Type 0} where
+  -- an author's appender through which nothing was appended
+  abbrev pub unused : ℕ → Appended E
+  unused author = record { author = author; count = 0; upto = [] }
+
   -- the entry, if it is this author's
   abbrev pub entry_by : (E → ℕ) → ℕ → E → List E
   entry_by author_of author e = if author_of e == author then e ∷ [] else []
@@ -23,19 +27,19 @@ module _ {E : Type 0} where
   -- The entry stands at the end of the log, behind all that was appended by the same appender before, and is counted.
   pub record IsAppended (old : Appended E) (e : E) (new : Appended E) : Type 0 where
     pub before : List E
-    pub had : IsPrefix old.own before
-    pub own : new.own ≡ before ++ e ∷ []
+    pub had : IsPrefix old.upto before
+    pub upto : new.upto ≡ before ++ e ∷ []
     pub author : new.author ≡ old.author
     pub count : new.count ≡ old.count + 1
 
   -- the log begins with what the appender saw of it, and has as many entries of its author at least as were appended
   pub record HasMost (author_of : E → ℕ) (log : List E) (it : Appended E) : Type 0 where
-    pub had : IsPrefix it.own log
+    pub had : IsPrefix it.upto log
     pub count : it.count ≤ length (entries_by author_of it.author log)
 
   -- the log begins with what the appender saw of it, and has as many entries of its author as were appended
   pub record HasAll (author_of : E → ℕ) (log : List E) (it : Appended E) : Type 0 where
-    pub had : IsPrefix it.own log
+    pub had : IsPrefix it.upto log
     pub count : length (entries_by author_of it.author log) ≡ it.count
 
   -- no two are of one author

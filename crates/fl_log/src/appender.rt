@@ -11,7 +11,7 @@ use std::sync::ledger::Share;
 pub struct Appender<L: LogName, E: Entry> {
     pub(crate) author: u32,
     pub(crate) share: Share<L>,
-    pub(crate) own: Beginning<L, E>,
+    pub(crate) upto: Beginning<L, E>,
 }
 
 impl<L: LogName, E: Entry> Model for Appender<L, E> {
@@ -20,9 +20,9 @@ impl<L: LogName, E: Entry> Model for Appender<L, E> {
 
     ghost Value = { Appended E };
 
-    ghost view = { λ a. record { author = a.author; count = a.share.amount; own = a.own } };
+    ghost view = { λ a. record { author = a.author; count = a.share.amount; upto = a.upto } };
 
-    ghost invariant = { λ a. (a.share.parts ≡ 1) × (a.share.amount ≤ length (entries_by E.author a.author a.own)) };
+    ghost invariant = { λ a. (a.share.parts ≡ 1) × (a.share.amount ≤ length (entries_by E.author a.author a.upto)) };
 }
 
 impl<L: LogName, E: Entry> Appender<L, E> {
@@ -40,6 +40,6 @@ impl<L: LogName, E: Entry> Appender<L, E> {
     pub(crate) fn begins(&self, log: &Beginning<L, E>) -> bool
         ensures { result ≡ true → HasMost E.author log.now self.now }
     {
-        self.own.begins(log)
+        self.upto.begins(log)
     }
 }

@@ -2,7 +2,7 @@
 
 ghost use Rattle.std.specs.Prelude.{◌≡◌, ◌≢◌, ◌+◌, ◌<◌, ◌++◌, ◌∷◌, [], true, false, All, IfSome, None, length, sum_by};
 ghost use mathlib.Core.List.{IsPrefix};
-ghost use Rattle.fl_log.specs.Appended.{AreApart, HasAll, HasMost, IsAppended};
+ghost use Rattle.fl_log.specs.Appended.{AreApart, HasAll, HasMost, IsAppended, unused};
 
 use crate::appender::Appender;
 use crate::beginning::{Beginning, MOST_ENTRIES};
@@ -46,35 +46,40 @@ impl<L: LogName, E: Entry> SharedLog<L, E> {
     pub fn appender(&self, rest: &mut Share<L>, author: u32) -> Appender<L, E>
         requires none { self.now ≡ [] }
         requires rest { (0 < rest.old.parts) × (rest.old.amount ≡ 0) }
-        ensures fresh { result ≡ record { author = author; count = 0; own = [] } }
+        ensures fresh { result ≡ unused author }
         ensures rest { (rest.new.parts + 1 ≡ rest.old.parts) × (rest.new.amount ≡ 0) }
     {
         Appender {
             author,
             share: rest.split_off(1, 0),
-            own: self.all.again(),
+            upto: self.all.again(),
         }
     }
 
     /// Appends an entry of the appender's author, and says whether it did. If not, nothing changed. Proofs alone read
     /// the entry: `M` says what it is, made of `about`.
-    pub fn append<X, M: Plain<X, E, u64>>(&mut self, own: &mut Appender<L, E>, about: &X) -> bool
-        requires own { E.author (M.ask about.now) ≡ own.old.author }
+    pub fn append<X, M: Plain<X, E, u64>>(
+        &mut self,
+        appender: &mut Appender<L, E>,
+        about: &X,
+    ) -> bool
+        requires appender { E.author (M.ask about.now) ≡ appender.old.author }
         requires plain { M.state about.now ≡ None }
-        ensures appended { result ≡ true → (self.new ≡ self.old ++ M.ask about.now ∷ []) × (own.new.own ≡ self.new)
-            × IsPrefix own.old.own self.old × IsAppended own.old (M.ask about.now) own.new }
-        ensures refused { result ≡ false → (self.new ≡ self.old) × (own.new ≡ own.old) }
+        ensures appended { result ≡ true → (self.new ≡ self.old ++ M.ask about.now ∷ [])
+            × (appender.new.upto ≡ self.new) × IsPrefix appender.old.upto self.old
+            × IsAppended appender.old (M.ask about.now) appender.new }
+        ensures refused { result ≡ false → (self.new ≡ self.old) × (appender.new ≡ appender.old) }
     {
         let SharedLog { log, all, book } = self;
-        if all.len() >= MOST_ENTRIES || !own.begins(all) {
+        if all.len() >= MOST_ENTRIES || !appender.begins(all) {
             return false;
         }
         let mut next = all.again();
         if !next.add::<X, M>(log, about) {
             return false;
         }
-        book.add(&mut own.share, 1);
-        own.own = next.again();
+        book.add(&mut appender.share, 1);
+        appender.upto = next.again();
         *all = next;
         true
     }
@@ -84,7 +89,7 @@ impl<L: LogName, E: Entry> SharedLog<L, E> {
         requires all { length appenders.items ≡ L.parts }
         ensures same { self.new ≡ self.old }
         ensures each { result ≡ true → All (HasAll E.author self.old) appenders.items }
-        ensures total { result ≡ true → length self.old ≡ sum_by (λ own. own.count) appenders.items }
+        ensures total { result ≡ true → length self.old ≡ sum_by (λ appender. appender.count) appenders.items }
     {
         if !begins_with(&self.all, &appenders) || !are_apart(&appenders) {
             return false;
@@ -101,8 +106,8 @@ impl<L: LogName, E: Entry> SharedLog<L, E> {
 fn begins_with<L: LogName, E: Entry>(all: &Beginning<L, E>, appenders: &[Appender<L, E>]) -> bool
     ensures { result ≡ true → All (HasMost E.author all.now) appenders.now }
 {
-    for own in appenders {
-        if !own.begins(all) {
+    for appender in appenders {
+        if !appender.begins(all) {
             return false;
         }
     }
@@ -114,8 +119,8 @@ fn are_apart<L: LogName, E: Entry>(appenders: &[Appender<L, E>]) -> bool
     ensures { result ≡ true → AreApart appenders.now }
 {
     for i in 0..appenders.len() {
-        let own = &appenders[i];
-        if has_author(&appenders[..i], own.author) {
+        let appender = &appenders[i];
+        if has_author(&appenders[..i], appender.author) {
             return false;
         }
     }
@@ -124,10 +129,10 @@ fn are_apart<L: LogName, E: Entry>(appenders: &[Appender<L, E>]) -> bool
 
 // Whether one of them is this author's.
 fn has_author<L: LogName, E: Entry>(appenders: &[Appender<L, E>], author: u32) -> bool
-    ensures { result ≡ false → All (λ own. own.author ≢ author) appenders.now }
+    ensures { result ≡ false → All (λ appender. appender.author ≢ author) appenders.now }
 {
-    for own in appenders {
-        if own.author == author {
+    for appender in appenders {
+        if appender.author == author {
             return true;
         }
     }
@@ -137,13 +142,13 @@ fn has_author<L: LogName, E: Entry>(appenders: &[Appender<L, E>], author: u32) -
 // The shares of all of them as one.
 fn merged<L: LogName, E: Entry>(appenders: Vec<Appender<L, E>>) -> Option<Share<L>>
     ensures parts { IfSome result (λ all. all.parts ≡ length appenders.items) }
-    ensures amount { IfSome result (λ all. all.amount ≡ sum_by (λ own. own.count) appenders.items) }
+    ensures amount { IfSome result (λ all. all.amount ≡ sum_by (λ appender. appender.count) appenders.items) }
 {
     let mut appenders = appenders;
     let Appender { share, .. } = appenders.pop()?;
     let mut all = share;
-    while let Some(own) = appenders.pop() {
-        let Appender { share, .. } = own;
+    while let Some(appender) = appenders.pop() {
+        let Appender { share, .. } = appender;
         all.merge(share);
     }
     Some(all)

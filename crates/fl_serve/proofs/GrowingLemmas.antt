@@ -75,10 +75,10 @@ module _ {E : Type 0} (author_of : E → ℕ) (author : ℕ) where
 -- an entry was appended, which is its author's last
 pub appended_more : {E : Type 0} (author_of : E → ℕ) (old new : Appended E) (e : E) → author_of e ≡ old.author
     → IsAppended old e new
-    → Grows (entries_by author_of old.author old.own) (entries_by author_of old.author new.own) old.count new.count (e ∷ [])
+    → Grows (entries_by author_of old.author old.upto) (entries_by author_of old.author new.upto) old.count new.count (e ∷ [])
 appended_more author_of old new e its appended =
     let by = entries_by author_of old.author in
-    one_more (by old.own) (by appended.before) (by new.own) old.count new.count e
-    (by_begins author_of old.author old.own appended.before appended.had)
-    (ap by appended.own ∙ by_append author_of old.author appended.before (e ∷ [])
+    one_more (by old.upto) (by appended.before) (by new.upto) old.count new.count e
+    (by_begins author_of old.author old.upto appended.before appended.had)
+    (ap by appended.upto ∙ by_append author_of old.author appended.before (e ∷ [])
     ∙ ap (λ l. by appended.before ++ l) (by_itself author_of old.author e its)) appended.count

@@ -46,8 +46,8 @@ turn_to shows worker from to on had (refused order ∷ os) more turn = turn_to s
 -- the history begins with all that was handed in or shown
 front_begins : (history : List Line) (place : Place) → HasAllOf history place → IsPrefix (front_of place) history
 front_begins history place has =
-    elim (nat_le (length place.own) (length place.seen))
-    as (λ b. IsPrefix (if b then place.seen else place.own) history) [ true ↦ has.saw | false ↦ has.had ]
+    elim (nat_le (length place.handed) (length place.seen))
+    as (λ b. IsPrefix (if b then place.seen else place.handed) history) [ true ↦ has.saw | false ↦ has.had ]
 
 module _ (rules : Rules) where
   -- a worker, with what became of its orders
@@ -83,7 +83,7 @@ module _ (rules : Rules) where
   answered_one : (history : List Line) (w : Work) (done : IsDone rules w) → HasAllOf history w.place
       → IsAnswered rules history (part_of w done)
   answered_one history w done has = record {
-    handed = just_these (answered_by w.place.worker w.place.own) (answered_by w.place.worker history) w.place.count
+    handed = just_these (answered_by w.place.worker w.place.handed) (answered_by w.place.worker history) w.place.count
         (answers done.outcomes) done.handed has.answered has.count;
     shown = turn_to (IsAnsweredAfter rules) w.place.worker [] (front_of w.place) history [] done.outcomes
         (front_begins history w.place has) (done.shown [] (sublist.refl []));
@@ -106,7 +106,7 @@ module _ (rules : Rules) where
   kept_one history stored w done has begins = record {
     front = w.place.stored;
     begins = begins;
-    all = done.stored refl ∙ all_grown (answered_by w.place.worker w.place.own) (answered_by w.place.worker history)
+    all = done.stored refl ∙ all_grown (answered_by w.place.worker w.place.handed) (answered_by w.place.worker history)
         w.place.count (answers done.outcomes) done.handed has.answered has.count;
   }
 
@@ -159,10 +159,10 @@ module _ (rules : Rules) where
       × (w.sent.count ≡ length done.outcomes)
   gave_one log w done none has =
       let worker = w.place.worker in
-      let grown = subst (Grows [] (entries_of worker w.sent.own) 0 w.sent.count) (done.sent.all none) done.sent.grown in
+      let grown = subst (Grows [] (entries_of worker w.sent.upto) 0 w.sent.count) (done.sent.all none) done.sent.grown in
       let count : length (entries_of worker log) ≡ w.sent.count = subst (λ n. length (entries_of n log) ≡ w.sent.count) done.sent.author has.count in (
-        just_these (entries_of worker w.sent.own) (entries_of worker log) w.sent.count (map (entry_for worker) done.outcomes)
-            grown (by_begins author_of worker w.sent.own log has.had) count,
+        just_these (entries_of worker w.sent.upto) (entries_of worker log) w.sent.count (map (entry_for worker) done.outcomes)
+            grown (by_begins author_of worker w.sent.upto log has.had) count,
         omega (arith, grown.counted, length-map done.outcomes (entry_for worker)),
       )
 

@@ -10,12 +10,12 @@ use Rattle.fl_workers.specs.declared.entry.ReplyEntry.{ReplyEntry}
 
 -- nothing was done at a fresh seat, with a fresh appender in its worker's name
 pub idle_at : (place : Place) (sent : Appended ReplyEntry) → IsUnused place
-    → sent ≡ record { author = place.worker; count = 0; own = [] } → IsIdle place sent
+    → sent ≡ record { author = place.worker; count = 0; upto = [] } → IsIdle place sent
 idle_at place sent fresh is = λ i. record {
   worker = place.worker;
   count = fresh.0 i;
   answered = answered_by place.worker (fresh.1 i);
-  front = front_of (record place { own = fresh.1 i; seen = fresh.2 i });
+  front = front_of (record place { handed = fresh.1 i; seen = fresh.2 i });
   stored = fresh.3 i;
   sent = is i;
 }

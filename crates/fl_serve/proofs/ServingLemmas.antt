@@ -91,7 +91,7 @@ last_is_left false messages goodbye last none = ap last_words (none refl)
 -- whose receiver, and whose workers, gave all that was given
 pub all_given : (rules : Rules) (workers : ℕ) (it : Reception) (start : Option (List ℕ)) (out : Outgoing)
     (sents : List (Appended ReplyEntry)) (places : List Place) (orders : Weight → ℕ) (any lost whole : Bool)
-    → (received : HasReceived it) → it.sent ≡ record { author = workers; count = 0; own = [] }
+    → (received : HasReceived it) → it.sent ≡ record { author = workers; count = 0; upto = [] }
     → (did : HaveDone rules orders places sents any lost)
     → (said : HasSaidGoodbye start out sents it.sent_now it.goodbye whole) → it.lost ≡ false → lost ≡ false
     → whole ≡ true → AreAllGiven workers received.messages (parts_of rules did.works did.each) said.log
@@ -106,15 +106,15 @@ all_given rules workers it start out sents places orders any lost whole received
     last_is_left over received.messages it.goodbye received.over received.live in
     let answers : List ReplyEntry = map (answer_by workers) received.answered in
     let last : List ReplyEntry = map (answer_by workers) (last_words it.goodbye) in
-    let first : Grows [] (entries_of workers it.sent_now.own) 0 it.sent_now.count answers =
-    subst (λ (a : Appended ReplyEntry). Grows (entries_of a.author a.own) (entries_of a.author it.sent_now.own) a.count
+    let first : Grows [] (entries_of workers it.sent_now.upto) 0 it.sent_now.count answers =
+    subst (λ (a : Appended ReplyEntry). Grows (entries_of a.author a.upto) (entries_of a.author it.sent_now.upto) a.count
     it.sent_now.count (map (answer_by a.author) received.answered)) fresh
-    (subst (Grows (entries_of it.sent.author it.sent.own) (entries_of it.sent.author it.sent_now.own) it.sent.count
+    (subst (Grows (entries_of it.sent.author it.sent.upto) (entries_of it.sent.author it.sent_now.upto) it.sent.count
     it.sent_now.count) (received.sent.all none) received.sent.grown) in
-    let then : Grows (entries_of workers it.sent_now.own) (entries_of workers said.mine.own) it.sent_now.count said.mine.count last =
-    subst (λ n. Grows (entries_of n it.sent_now.own) (entries_of n said.mine.own) it.sent_now.count said.mine.count
+    let then : Grows (entries_of workers it.sent_now.upto) (entries_of workers said.mine.upto) it.sent_now.count said.mine.count last =
+    subst (λ n. Grows (entries_of n it.sent_now.upto) (entries_of n said.mine.upto) it.sent_now.count said.mine.count
     (map (answer_by n) (last_words it.goodbye))) name (said.grown all).grown in
-    let grown = then_more [] (entries_of workers it.sent_now.own) (entries_of workers said.mine.own) 0 it.sent_now.count
+    let grown = then_more [] (entries_of workers it.sent_now.upto) (entries_of workers said.mine.upto) 0 it.sent_now.count
     said.mine.count answers last first then in
     let has = said.all all in
     let mine : said.mine.author ≡ workers = (said.grown all).author ∙ name in
@@ -123,8 +123,8 @@ all_given rules workers it start out sents places orders any lost whole received
     ap (map (answer_by workers)) (received.own ∙ ap (λ l. received.answered ++ l) (sym words))
     ∙ map-append (answer_by workers) received.answered (last_words it.goodbye) in
     let these : entries_of workers log ≡ answers ++ last =
-    just_these (entries_of workers said.mine.own) (entries_of workers log) said.mine.count (answers ++ last) grown
-    (by_begins author_of workers said.mine.own log has.had) count in
+    just_these (entries_of workers said.mine.upto) (entries_of workers log) said.mine.count (answers ++ last) grown
+    (by_begins author_of workers said.mine.upto log has.had) count in
     record {
       each = gave.0;
       own = these ∙ sym own;
@@ -249,7 +249,7 @@ closed_as lines stored places known any told it closed =
 pub served_by : (rules : Rules) (workers : ℕ) (it : Reception) (start held : Option (List ℕ)) (broken : Bool)
     (sents : List (Appended ReplyEntry)) (places : List Place) (orders : Weight → ℕ) (any lost whole : Bool)
     (told : Option Fault) (stored : List Line) (done : Done)
-    → HasReceived it → it.sent ≡ record { author = workers; count = 0; own = [] }
+    → HasReceived it → it.sent ≡ record { author = workers; count = 0; upto = [] }
     → HaveDone rules orders places sents any lost
     → HasSaidGoodbye start (record { held = held; waiting = []; broken = broken }) sents it.sent_now it.goodbye whole
     → ((weight : Weight) → sum_by weight it.put ≡ orders weight)
@@ -394,7 +394,7 @@ workers_back places back workers takers whose all same =
 -- what was received, with the receiver's appender by its own name
 pub received_by : (left left_now : Option (List ℕ)) (fault : Option Fault) (put : Orders) (goodbye : Response)
     (sent sent_now : Appended ReplyEntry) (lost : Bool) (workers takers : ℕ)
-    → sent ≡ record { author = workers; count = 0; own = [] } → takers ≡ workers
+    → sent ≡ record { author = workers; count = 0; upto = [] } → takers ≡ workers
     → HasReceived (record {
       left = left;
       left_now = left_now;
@@ -410,7 +410,7 @@ pub received_by : (left left_now : Option (List ℕ)) (fault : Option Fault) (pu
       fault = fault;
       put = put;
       goodbye = goodbye;
-      sent = record { author = takers; count = 0; own = [] };
+      sent = record { author = takers; count = 0; upto = [] };
       sent_now = sent_now;
       lost = lost;
     })
@@ -424,4 +424,4 @@ received_by left left_now fault put goodbye sent sent_now lost workers takers is
       sent = a;
       sent_now = sent_now;
       lost = lost;
-    })) (is ∙ ap (λ (n : ℕ). record { author = n; count = 0; own = [] }) (sym same)) received
+    })) (is ∙ ap (λ (n : ℕ). record { author = n; count = 0; upto = [] }) (sym same)) received

@@ -74,7 +74,7 @@ work_of rules worker end end_now place gave any lost back fresh =
       sym whole,
       refl,
       refl,
-      subst (λ n. HasWorked (IsAnsweredAfter rules) did.took (idle n) (standing_at place gave) any lost) (sym back.own)
+      subst (λ n. HasWorked (IsAnsweredAfter rules) did.took (idle n) (standing_at place gave) any lost) (sym back.whose)
           did.worked,
     )
 

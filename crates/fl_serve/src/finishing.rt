@@ -6,6 +6,7 @@ ghost use Rattle.std.specs.List.{range_with_len};
 ghost use Rattle.std.specs.Io.KnownBytes.{Keeps};
 ghost use Rattle.fl_desk.specs.Legal.{IsLegal};
 ghost use Rattle.fl_intake.specs.Ends.{weight_taken};
+ghost use Rattle.fl_log.specs.Appended.{unused};
 ghost use Rattle.fl_transport.specs.Collecting.{IsGiven};
 ghost use Rattle.fl_transport.specs.Ending.{IsRead};
 ghost use Rattle.fl_workers.specs.Received.{HasReceived, answer_by};
@@ -84,16 +85,18 @@ pub(crate) fn finish<
     requires replies { HasRoomFor (L.rules.parked + 1) replies }
     ensures writer { result.1.ghost_name ≡ N.writer }
     ensures legal { IfSome result.0.journal (λ journal. IsLegal L.rules (J.lines journal)) }
-    ensures served { (left left_now : Option (List ℕ)) → HasReceived (reception_of left left_now
-        (record { author = received.put.takers; count = 0; own = [] }) received) → IsServedBy received.put.takers L.rules (record {
+    ensures served { (left left_now : Option (List ℕ)) →
+        HasReceived (reception_of left left_now (unused received.put.takers) received)
+        → IsServedBy received.put.takers L.rules (record {
           left = left;
           left_now = left_now;
           held = N.start;
           held_now = W.contents result.1.now;
         }) (journal_lines J.stored result.0.journal) (done_of J.lines result.0) }
     ensures back { IsSome result.0.journal ⊎ (result.0.fault ≡ Some Fault.NoReader) }
-    ensures untold { (left left_now : Option (List ℕ)) → HasReceived (reception_of left left_now
-        (record { author = received.put.takers; count = 0; own = [] }) received) → result.0.fault ≡ Some Fault.NoReader → result.0.journal ≡ None }
+    ensures untold { (left left_now : Option (List ℕ)) →
+        HasReceived (reception_of left left_now (unused received.put.takers) received)
+        → result.0.fault ≡ Some Fault.NoReader → result.0.journal ≡ None }
     ensures memory { received.fault ≢ Some Fault.NoMemory → result.0.fault ≢ Some Fault.NoMemory }
 {
     let WorkerPool {

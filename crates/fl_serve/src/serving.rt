@@ -4,6 +4,7 @@ ghost use Rattle.std.specs.Prelude.{◌≡◌, ◌≤◌, ◌<◌, ◌+◌, ◌�
 ghost use Rattle.std.specs.Io.KnownBytes.{Keeps};
 ghost use Rattle.std.specs.List.{range_with_len};
 ghost use Rattle.fl_desk.specs.Legal.{IsLegal, LeavesLawful};
+ghost use Rattle.fl_log.specs.Appended.{unused};
 ghost use Rattle.fl_serve.specs.Inside.Running.{CanRun};
 ghost use Rattle.fl_serve.specs.Serve.{IsRecordedBy, IsServedBy};
 ghost use Rattle.fl_workers.specs.Room.{HasRoomFor};
@@ -225,7 +226,7 @@ fn run_pool<
     requires seats { map (λ post. post.seat.worker) posts.posts.items ≡ range_with_len 0 put.takers }
     requires can { CanRun L.rules pool.intake inbox put posts.ends.items posts.rooms.items }
     requires left { HasRoomFor (L.rules.parked + 1) left }
-    requires own { own ≡ record { author = put.takers; count = 0; own = [] } }
+    requires own { own ≡ unused put.takers }
     ensures writer { result.1.ghost_name ≡ N.writer }
     ensures recorded { IsRecordedBy J.lines J.stored put.takers L.rules (record {
       left = I.remaining r.old;

@@ -69,12 +69,12 @@ module _ {E : Type 0} (author_of : E → ℕ) where
 
   -- an entry was appended, which is its author's last
   pub appended_more : (old new : Appended E) (e : E) → author_of e ≡ old.author → IsAppended old e new
-      → Grows (entries_by author_of old.author old.own) (entries_by author_of old.author new.own) old.count new.count
+      → Grows (entries_by author_of old.author old.upto) (entries_by author_of old.author new.upto) old.count new.count
       (e ∷ [])
   appended_more old new e its appended =
-      let had = entries_by author_of old.author old.own in
+      let had = entries_by author_of old.author old.upto in
       let before = entries_by author_of old.author appended.before in
-      let is = ap (entries_by author_of old.author) appended.own ∙ by_more old.author appended.before (e ∷ [])
+      let is = ap (entries_by author_of old.author) appended.upto ∙ by_more old.author appended.before (e ∷ [])
       ∙ ap (λ l. before ++ l) (by_one old.author e its) in
-      one_more had before (entries_by author_of old.author new.own) old.count new.count e
-      (by_begins old.author old.own appended.before appended.had) is appended.count
+      one_more had before (entries_by author_of old.author new.upto) old.count new.count e
+      (by_begins old.author old.upto appended.before appended.had) is appended.count

@@ -24,7 +24,7 @@ none_sent here lost = record {
   author = refl;
   given = [];
   of = sublist.refl [];
-  grown = none_more (entries_of here.author here.own) here.count;
+  grown = none_more (entries_of here.author here.upto) here.count;
   all = λ none. refl;
 }
 
@@ -45,7 +45,7 @@ one_lost e old new same = subst (λ here. HasSent (e ∷ []) old here true) (sym
   author = refl;
   given = [];
   of = sublist.nil-sublist (e ∷ []);
-  grown = none_more (entries_of old.author old.own) old.count;
+  grown = none_more (entries_of old.author old.upto) old.count;
   all = λ none. absurd (true≢false none);
 })
 
@@ -60,12 +60,12 @@ pub then_sent : (xs ys : List ReplyEntry) (a b c : Appended ReplyEntry) (k m n :
     → (n ≡ false → (k ≡ false) × (m ≡ false)) → HasSent xs a b k → HasSent ys b c m → HasSent (xs ++ ys) a c n
 then_sent xs ys a b c k m n whole first second =
     let P : ℕ → Type 0 = λ author.
-    Grows (entries_of author b.own) (entries_of author c.own) b.count c.count second.given in
+    Grows (entries_of author b.upto) (entries_of author c.upto) b.count c.count second.given in
     record {
       author = second.author ∙ first.author;
       given = first.given ++ second.given;
       of = sublist.append first.of second.of;
-      grown = then_more (entries_of a.author a.own) (entries_of a.author b.own) (entries_of a.author c.own) a.count
+      grown = then_more (entries_of a.author a.upto) (entries_of a.author b.upto) (entries_of a.author c.upto) a.count
           b.count c.count first.given second.given first.grown (subst P first.author second.grown);
       all = λ none i. first.all (whole none).0 i ++ second.all (whole none).1 i;
     }

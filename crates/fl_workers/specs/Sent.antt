@@ -48,7 +48,7 @@ pub record HasSent (owed : List ReplyEntry) (old new : Appended ReplyEntry) (los
   pub author : new.author ≡ old.author
   pub given : List ReplyEntry
   pub of : Sublistᴰ given owed
-  pub grown : Grows (entries_of old.author old.own) (entries_of old.author new.own) old.count new.count given
+  pub grown : Grows (entries_of old.author old.upto) (entries_of old.author new.upto) old.count new.count given
   pub all : lost ≡ false → given ≡ owed
 
 -- what goes out by a shared sender, whether the session has begun, and all that was given to be sent

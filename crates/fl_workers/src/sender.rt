@@ -1,7 +1,7 @@
 //! The replies of a session whose workers share one writer.
 
 ghost use Rattle.std.specs.Prelude.{◌≡◌, ◌+◌, ◌<◌, ◌++◌, ◌∷◌, [], true, false, All, length, sum_by};
-ghost use Rattle.fl_log.specs.Appended.{HasAll, IsAppended};
+ghost use Rattle.fl_log.specs.Appended.{HasAll, IsAppended, unused};
 ghost use Rattle.fl_transport.specs.Collecting.{IsGiven};
 ghost use Rattle.fl_workers.specs.Sent.{entry, replies_of, spelled};
 
@@ -93,7 +93,7 @@ impl<'a, W: Write, N: WriterName> SharedSender<'a, W, N> {
     pub fn appender(&self, rest: &mut Share<N>, author: u32) -> Appender<N, ReplyEntry>
         requires none { self.now.log ≡ [] }
         requires rest { (0 < rest.old.parts) × (rest.old.amount ≡ 0) }
-        ensures fresh { result ≡ record { author = author; count = 0; own = [] } }
+        ensures fresh { result ≡ unused author }
         ensures rest { (rest.new.parts + 1 ≡ rest.old.parts) × (rest.new.amount ≡ 0) }
     {
         self.log.appender(rest, author)
@@ -157,7 +157,7 @@ impl<'a, W: Write, N: WriterName> SharedSender<'a, W, N> {
         requires all { length appenders.items ≡ N.parts }
         ensures same { self.new ≡ self.old }
         ensures each { result ≡ true → All (HasAll (λ e. e.author) self.old.log) appenders.items }
-        ensures total { result ≡ true → length self.old.log ≡ sum_by (λ own. own.count) appenders.items }
+        ensures total { result ≡ true → length self.old.log ≡ sum_by (λ appender. appender.count) appenders.items }
     {
         self.log.is_by(appenders)
     }

@@ -26,7 +26,7 @@ history_of rules asks = lines_from (snapshot_of (opening rules)) asks
 -- the lines begin with all that the worker handed in, each order with all its replies, and was shown; and have as many
 -- orders of it at least
 pub record HasMostOf (lines : List Line) (place : Place) : Type 0 where
-  pub had : IsPrefix place.own lines
-  pub answered : IsPrefix (answered_by place.worker place.own) (answered_by place.worker lines)
+  pub had : IsPrefix place.handed lines
+  pub answered : IsPrefix (answered_by place.worker place.handed) (answered_by place.worker lines)
   pub saw : IsPrefix place.seen lines
   pub count : place.count ≤ length (answered_by place.worker lines)

@@ -18,4 +18,4 @@ pub record UnderLock : Type 0 where
 
 -- the place, once all that was handed in there is stored
 abbrev pub all_stored : Place → Place
-all_stored place = record place { stored = place.own }
+all_stored place = record place { stored = place.handed }

@@ -36,7 +36,7 @@ last_words (Replies tolds) = Replies tolds ∷ []
 -- these entries were appended through the same appender
 pub record HasGrown (old new : Appended ReplyEntry) (more : List ReplyEntry) : Type 0 where
   pub author : new.author ≡ old.author
-  pub grown : Grows (entries_of old.author old.own) (entries_of old.author new.own) old.count new.count more
+  pub grown : Grows (entries_of old.author old.upto) (entries_of old.author new.upto) old.count new.count more
 
 -- All that was given is a log before the goodbye and, if anything is left to say, that. It was written, or a prefix of
 -- it. If it is whole, its entries are those that were given through these appenders and the receiver's, and the

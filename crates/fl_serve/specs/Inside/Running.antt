@@ -51,7 +51,8 @@ returns_of back =
     }
 
 -- how a receiver went, by what was left of its reader and is left now, what it had given to be sent, and how it ended
-abbrev pub reception_of : {N : Type 0} → Option (List ℕ) → Option (List ℕ) → Appended ReplyEntry → Received N → Reception
+abbrev pub reception_of : {N : Type 0} → Option (List ℕ) → Option (List ℕ) → Appended ReplyEntry → Received N
+    → Reception
 reception_of left left_now sent received =
     record {
       left = left;

@@ -8,7 +8,7 @@ use Rattle.fl_desk.specs.Answered.{IsAnsweredAfter, answered_by}
 use Rattle.fl_desk.specs.Asked.{Orders}
 use Rattle.fl_intake.specs.Ends.{TakeSide, weight_taken}
 use Rattle.fl_intake.specs.Often.{Weight}
-use Rattle.fl_log.specs.Appended.{Appended}
+use Rattle.fl_log.specs.Appended.{Appended, unused}
 use Rattle.fl_serve.specs.Serve.{some_is}
 use Rattle.fl_transport.specs.declared.fault.Fault.TheVariants.{NoMemory}
 use Rattle.fl_waiting.specs.declared.rules.Rules.{Rules}
@@ -22,7 +22,7 @@ IsFresh of end = (end.of ≡ of) × (end.taken ≡ [])
 
 -- nothing was handed in, shown or stored at this place
 abbrev pub IsUnused : Place → Type 0
-IsUnused place = (place.count ≡ 0) × (place.own ≡ []) × (place.seen ≡ []) × (place.stored ≡ [])
+IsUnused place = (place.count ≡ 0) × (place.handed ≡ []) × (place.seen ≡ []) × (place.stored ≡ [])
 
 -- where a worker stands, by its place at the board and what it gave to be sent
 abbrev pub standing_at : Place → Appended ReplyEntry → Standing
@@ -30,7 +30,7 @@ standing_at place sent =
     record {
       worker = place.worker;
       count = place.count;
-      answered = answered_by place.worker place.own;
+      answered = answered_by place.worker place.handed;
       front = front_of place;
       stored = place.stored;
       sent = sent;
@@ -45,7 +45,7 @@ idle worker =
       answered = [];
       front = [];
       stored = [];
-      sent = record { author = worker; count = 0; own = [] };
+      sent = unused worker;
     }
 
 -- nothing was done at this place
@@ -60,7 +60,7 @@ HasWorkedOn rules orders place sent any lost =
 -- The place of this worker came back, and its end of the same intake. What the end took since was worked on there.
 pub record HasComeBack (rules : Rules) (worker : ℕ) (end : TakeSide) (place : Place) (sent : Appended ReplyEntry)
     (end_now : TakeSide) (any lost : Bool) : Type 0 where
-  pub own : place.worker ≡ worker
+  pub whose : place.worker ≡ worker
   pub same : end_now.of ≡ end.of
   pub did : HasDone (IsAnsweredAfter rules) end.taken end_now.taken (idle worker) (standing_at place sent) any lost
 

@@ -14,9 +14,9 @@ loop-worker-preserved g c =
       search rules,
       search rules,
       ap (map (λ seat. seat.worker)) c.push_reserved.ensures.items ∙ seat_added (λ seat. seat.worker) _ _ _ inv.4 refl,
-      subst (All (λ seat. (seat.count ≡ 0) × (seat.own ≡ []) × (seat.seen ≡ []) × (seat.stored ≡ [])))
+      subst (All (λ seat. (seat.count ≡ 0) × (seat.handed ≡ []) × (seat.seen ≡ []) × (seat.stored ≡ [])))
           (sym {A = List Place} c.push_reserved.ensures.items)
-          (All-push (λ seat. (seat.count ≡ 0) × (seat.own ≡ []) × (seat.seen ≡ []) × (seat.stored ≡ [])) _ _ inv.5 (
+          (All-push (λ seat. (seat.count ≡ 0) × (seat.handed ≡ []) × (seat.seen ≡ []) × (seat.stored ≡ [])) _ _ inv.5 (
             c.split_off-share.ensures.amount,
             ap (history_of g.L.BoardName.rules) (c.again.ensures ∙ c.requires.none),
             ap (history_of g.L.BoardName.rules) (c.again-in-loop-worker.ensures ∙ c.requires.none),

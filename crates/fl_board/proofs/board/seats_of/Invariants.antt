@@ -9,4 +9,4 @@ invariant-loop-worker g l =
     × (vec_len l.seats ≡ l.worker)
     × (l.workers ≤ vec_capacity l.seats)
     × (map (λ seat. seat.worker) l.seats.items ≡ range_with_len 0 l.worker)
-    × All (λ seat. (seat.count ≡ 0) × (seat.own ≡ []) × (seat.seen ≡ []) × (seat.stored ≡ [])) l.seats.items
+    × All (λ seat. (seat.count ≡ 0) × (seat.handed ≡ []) × (seat.seen ≡ []) × (seat.stored ≡ [])) l.seats.items

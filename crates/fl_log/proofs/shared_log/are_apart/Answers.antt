@@ -9,12 +9,12 @@ pub loop-i-preserved : goal.loop-i-preserved
 loop-i-preserved g c =
     let its = c.args.appenders.now in
     let i = c.loop-i.i in
-    let own = c.index-appenders-i.result in
+    let appender = c.index-appenders-i.result in
     let lt : i < length its = search rules in
-    let is : get_or its i own ≡ own = sym c.index-appenders-i.is in
-    let whose : c.own.inside.author ≡ own.author = ap (λ (a : _). a.author) c.own.view_is in
-    rw (take_more its i own lt, is)
-    (all_pairs_push (λ (a b : _). a.author ≢ b.author) (take i its) own c.loop-i.invariant
+    let is : get_or its i appender ≡ appender = sym c.index-appenders-i.is in
+    let whose : c.appender.inside.author ≡ appender.author = ap (λ (a : _). a.author) c.appender.view_is in
+    rw (take_more its i appender lt, is)
+    (all_pairs_push (λ (a b : _). a.author ≢ b.author) (take i its) appender c.loop-i.invariant
     (λ k d short same. c.if-has_author.ensures refl k d short (same ∙ sym whose)))
 
 pub returns : goal.returns

@@ -2,5 +2,5 @@ use Rattle.std.proofs.Common.{All, take}
 use Rattle.fl_log.specs.Appended.{HasMost}
 use Rattle.fl_log.proofs.shared_log.begins_with.Given as goal
 
-abbrev pub invariant-loop-own : goal.invariant-loop-own
-invariant-loop-own g l = All (HasMost g.E.Entry.author l.all) (take l.own-index l.appenders)
+abbrev pub invariant-loop-appender : goal.invariant-loop-appender
+invariant-loop-appender g l = All (HasMost g.E.Entry.author l.all) (take l.appender-index l.appenders)

@@ -1,5 +1,5 @@
 use Rattle.std.proofs.Common.{◌≢◌, All, take}
 use Rattle.fl_log.proofs.shared_log.has_author.Given as goal
 
-abbrev pub invariant-loop-own : goal.invariant-loop-own
-invariant-loop-own g l = All (λ own. own.author ≢ l.author) (take l.own-index l.appenders)
+abbrev pub invariant-loop-appender : goal.invariant-loop-appender
+invariant-loop-appender g l = All (λ appender. appender.author ≢ l.author) (take l.appender-index l.appenders)

@@ -33,7 +33,7 @@ loop-thread-preserved g c =
       search rules,
       search rules,
       moves (λ (s : Place). s.worker) (λ t. t.promise.worker) _ _ came.0.seat _ _ c.in-Some.thread _ i.4 seats steps
-          kept.own,
+          kept.whose,
       thread.1,
       all_pushed (λ (e : TakeSide). e.of ≡ c.args.intake.now) c.loop-thread.back.ends.items _ came.1 ends i.6
           (kept.same ∙ thread.0.0),

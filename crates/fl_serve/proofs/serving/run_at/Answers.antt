@@ -61,7 +61,7 @@ run_pool-requires-clause-can g c _ _ =
 
 pub run_pool-requires-clause-own : goal.run_pool-requires-clause-own
 run_pool-requires-clause-own g c _ _ =
-    let by : ℕ → Appended ReplyEntry = λ author. record { author = author; count = 0; own = [] } in
+    let by : ℕ → Appended ReplyEntry = λ author. record { author = author; count = 0; upto = [] } in
     c.appender-own.ensures.fresh ∙ sym (ap by c.in-Ok.ensures.stock.takers)
 
 pub returns-clause-recorded : goal.returns-clause-recorded

@@ -69,10 +69,10 @@ invariant_of-seat g c =
     let order = c.args.order.now in
     let worker = c.seat.inside.worker in
     let ask : Ask = record { worker = worker; order = order } in
-    let own : c.again.result ≡ was ++ ask ∷ [] = c.again.ensures ∙ c.in-Ok.ensures.added in
+    let added : c.again.result ≡ was ++ ask ∷ [] = c.again.ensures ∙ c.in-Ok.ensures.added in
     let most = subst (λ (p : Place). HasMostOf (history_of ours was) p) (sym c.seat.view_is) (c.if-not-begins.ensures.most refl) in
     let more : orders_by worker (history_of ours c.again.result) ≡ orders_by worker (history_of ours was) + 1 =
-    ap (λ asks. orders_by worker (history_of ours asks)) own ∙ ap (orders_by worker) (history_more ours was ask)
+    ap (λ asks. orders_by worker (history_of ours asks)) added ∙ ap (orders_by worker) (history_more ours was ask)
     ∙ one_more_by worker (history_of ours was) order (replies (present_after ours was) order) in
     (c.add.ensures.parts ∙ c.seat.invariant.0, omega (arith, c.add.ensures.amount, most.count, more))
 
@@ -88,7 +88,7 @@ returns-clause-handed g c =
     let order = c.args.order.now in
     let worker = c.seat.inside.worker in
     let ask : Ask = record { worker = worker; order = order } in
-    let own : c.again.result ≡ was ++ ask ∷ [] = c.again.ensures ∙ c.in-Ok.ensures.added in
+    let added : c.again.result ≡ was ++ ask ∷ [] = c.again.ensures ∙ c.in-Ok.ensures.added in
     let told : c.take.new.tolds.told ≡ replies_in (state_after (present_after ours was).rules (history_of ours was)) order = search rules in
     let leads = c.asks_lead.ensures in
     let answered : c.take.new.tolds.told ≡ replies (present_after ours was) order =
@@ -97,7 +97,7 @@ returns-clause-handed g c =
     let most = subst (λ (p : Place). HasMostOf (history_of ours was) p) (sym c.seat.view_is) (c.if-not-begins.ensures.most refl) in
     rw (← c.seat.view_is) (record {
       before = history_of ours was;
-      own = ap (history_of ours) own ∙ history_more ours was ask
+      handed = ap (history_of ours) added ∙ history_more ours was ask
           ∙ ap (λ t. history_of ours was ++ step_lines worker order t) (sym answered);
       legal = leads.legal ours c.again.result;
       had = most.had;

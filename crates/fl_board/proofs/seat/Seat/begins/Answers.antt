@@ -16,13 +16,13 @@ pub returns-then-begins-clause-most : goal.returns-then-begins-clause-most
 returns-then-begins-clause-most g c = λ t.
     let ours = g.L.BoardName.rules in
     let worker = c.self.inside.worker in
-    let own : IsPrefix c.self.inside.own c.args.asks.now = c.if-begins.ensures.begins.0 refl in
-    let answered = answered_begins ours worker _ _ own in
+    let handed : IsPrefix c.self.inside.handed c.args.asks.now = c.if-begins.ensures.begins.0 refl in
+    let answered = answered_begins ours worker _ _ handed in
     let more = no_longer _ _ answered in
     let count : c.self.inside.share.amount ≤ length (answered_by worker (history_of ours c.args.asks.now)) =
     omega (arith, c.self.invariant.1, more) in
     rw (← c.self.view_is) (record {
-      had = history_begins ours _ _ own;
+      had = history_begins ours _ _ handed;
       answered = answered;
       saw = history_begins ours _ _ (c.begins-then-begins.ensures.begins.0 t);
       count = count;

@@ -17,7 +17,7 @@ returns g c =
     let failures = c.worker_loop-failures.result in
     let done = c.worker_loop-failures.ensures.did in
     record {
-      own = done.worked.worker;
+      whose = done.worked.worker;
       same = c.worker_loop-failures.ensures.end ∙ sym c.requires.end;
       did = subst (λ old. HasDone (IsAnsweredAfter g.L.BoardName.rules) c.args.end.taken end.taken old
           (standing_at post.seat post.own) failures.refused failures.lost) c.requires.idle done;

@@ -12,7 +12,7 @@ loop-seat-preserved g c =
     let items = c.push_reserved.ensures.items in
     let seat = c.in-Some.seat in
     let both = first_and_rest IsUnused _ _ seat steps i.4 in
-    let named = subst (λ w. c.appender-own.result ≡ record { author = w; count = 0; own = [] }) c.worker.ensures
+    let named = subst (λ w. c.appender-own.result ≡ record { author = w; count = 0; upto = [] }) c.worker.ensures
     c.appender-own.ensures.fresh in
     let more = ap length items ∙ length-append c.loop-seat.posts.items (_ ∷ []) in (
       omega (arith, i.0, more, ap length steps),
