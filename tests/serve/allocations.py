@@ -11,8 +11,9 @@ import subprocess
 import sys
 
 from tests import calls, fuse
-from tests.fuse import EAGAIN, ENOMEM, FORGET, INTERRUPT, NO_LOCK, READ_LOCK, SETLK, SETLKW, WRITE_LOCK
+from tests.fuse import EAGAIN, EBADF, ENOMEM, FORGET, GETLK, INTERRUPT, NO_LOCK, READ_LOCK, SETLK, SETLKW, WRITE_LOCK
 from tests.resume.kit import LINES, completed, lines_of
+from tests.serve.kit import Client
 from tests.tries import CREATE, INIT, PATIENCE, PROGRAM, TOP, Server, judged, lock, replies, setlk, take
 
 COUNTS = f"{calls.WORK.name}/counts"
@@ -124,6 +125,43 @@ def try_a_board_of_thousands():
 
 def try_a_server_with_requests_that_wait():
     return serve_each(waiting(), 4)
+
+
+# With one slot of each kind, what looks read is let go after 24 orders that are handed in and no look.
+ONE_SLOT = "--files", "1", "--open", "1", "--runs", "1", "--parked", "1"
+
+
+def serve_late_look(number):
+    """A GETLK after 60 orders, once they were answered, is shown the lock, or is handed in. Says whether it is a line; none where the server ended with
+    no memory, having answered nobody."""
+    server = Server(*ONE_SLOT, workers=2, env=refusing(number))
+    orders = {2: CREATE, **{unique: setlk(unique) for unique in range(3, 62)}}
+    try:
+        with Client(server) as client:
+            client.send(INIT, *orders.values())
+            found = replies(b"".join(client.some(1 + len(orders))))[1:]
+            client.send(lock(GETLK, 90, 8, 0, READ_LOCK))
+            client.closes()
+            looked = replies(b"".join(client.rest()))
+    except (BrokenPipeError, ConnectionError, FileNotFoundError):
+        found = looked = None
+    printed, told, status = server.ended()
+    if (printed, told, status) == (b"", "no memory\n", 2):
+        assert not found, (number, found)
+        return None
+    assert (told, status) == ("", 0) and [unique for unique, _ in looked] == [90], (number, told, status, looked)
+    is_line = re.search(rb"^ask \d+ 90 ", printed, re.M) is not None
+    assert is_served({**orders, **({90: b""} if is_line else {})}, printed, found + (looked if is_line else [])) <= 1, number
+    assert is_line or looked == [(90, 0 if (2, 0) in found else EBADF)], (number, looked)
+    return is_line
+
+
+def try_a_look_that_finds_no_memory():
+    """What looks read is made anew after a long time. Each allocation for that is refused in turn, too: then the look is handed in."""
+    assert serve_late_look(0) is False
+    came = [serve_late_look(number) for number in range(1, asked() + 1)]
+    assert True in came and False in came, came
+    return f"{len(came)} refused: {came.count(None)} ended with no memory, {came.count(True)} handed a look in"
 
 
 def owed_lines():

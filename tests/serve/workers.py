@@ -154,6 +154,31 @@ def try_a_lock_that_was_set_is_shown():
         trace_of(server, lines=600 if workers == 1 else 400)
 
 
+# With one slot of each kind, what looks read is let go after 24 orders that are handed in and no look.
+ONE_SLOT = "--files", "1", "--open", "1", "--runs", "1", "--parked", "1"
+
+
+def try_a_lock_after_a_long_time_is_shown():
+    """After many orders without a look, what looks read was let go. 64 looks that come together then are shown the lock that was set last, and so are
+    later ones. None of them is a line."""
+    for workers, options, count in (2, ONE_SLOT, 60), (16, ONE_SLOT, 600), (4, (), 200_000):
+        server = Server(*options, workers=workers)
+        with Client(server) as client:
+            client.begin()
+            for first in range(3, 3 + count, 64):
+                uniques = range(first, min(first + 64, 3 + count))
+                client.send(b"".join(map(setlk, uniques)))
+                assert len(take(client.socket, fuse.BARE_SIZE * len(uniques))) == fuse.BARE_SIZE * len(uniques)
+            client.gets(lock(SETLK, 3 + count, 7, 0, WRITE_LOCK), reply(3 + count))
+            for first in 10**6, 2 * 10**6:
+                looks = range(first, first + 64)
+                client.send(*(lock(GETLK, it, 8, 0, READ_LOCK) for it in looks))
+                assert sorted(client.some(64)) == sorted(lock_reply(it, 0, 0, WRITE_LOCK, 11) for it in looks), (workers, first)
+            client.closes()
+            assert client.rest() == []
+        trace_of(server, lines=2 * (count + 2), options=options)
+
+
 def try_no_reply_stays_behind():
     """Each order is sent when the reply to the one before has come, so it stands behind that in the trace."""
     for workers in 1, 4, 16:

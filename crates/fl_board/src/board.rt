@@ -1,7 +1,7 @@
 //! The board: workers with seats hand in orders under one lock, and look without it. One history of all orders is kept.
 
 ghost use Rattle.std.specs.Prelude.{◌≡◌, ◌<◌, ◌≤◌, ◌+◌, ◌↔◌, ◌⊎◌, [], ◌∷◌, true, Err, List, All, IfOk, IfErr, IfSome};
-ghost use Rattle.std.specs.Prelude.{IsSome, OnOk, OnErr, false, length, map, sum_by};
+ghost use Rattle.std.specs.Prelude.{IsSome, OnOk, OnErr, length, map, sum_by};
 ghost use Rattle.std.specs.List.{range_with_len};
 ghost use mathlib.Core.List.{IsPrefix};
 ghost use Rattle.fl_board.specs.Inside.Recorded.{all_stored};
@@ -20,7 +20,7 @@ use fl_history::{History, Journal, Lines};
 use fl_log::{Ask, Beginning, BoardName, FreshLog, ReplicaWriter};
 use fl_order::{Answer, Errno, NoMemory, Order};
 use std::alloc::{AllocError, Global};
-use std::sync::atomic::AtomicU64;
+use std::sync::atomic::{AtomicBool, AtomicU64, Ordering};
 use std::sync::ledger::{Blank, Share};
 use std::sync::{Mutex, Wait};
 use std::time::Duration;
@@ -29,8 +29,11 @@ use std::time::Duration;
 const PAUSE: u64 = 100;
 
 /// A board of 1 to 16 workers, whose lines go to a journal: they stay in memory, if nothing else is said.
-pub struct Board<L: BoardName, R: Wait + Drop, J: Journal = Lines> {
+pub struct Board<L: BoardName, R: Wait + Drop + Copy, J: Journal = Lines> {
     shared: Mutex<Shared<L, R, J>>,
+    alloc: Global,
+    // Somebody looked since orders were handed in together last.
+    looked: AtomicBool,
     workers: usize,
     ghost all: { workers ≡ L.workers },
     ghost some: { (0 < workers) × (workers ≤ 16) },
@@ -47,7 +50,7 @@ pub enum OpenFault {
 
 /// Why a board is not closed. Board and seats come back.
 #[derive(Drop)]
-pub enum CloseFault<L: BoardName, R: Wait + Drop, J: Journal = Lines> {
+pub enum CloseFault<L: BoardName, R: Wait + Drop + Copy, J: Journal = Lines> {
     /// There are fewer seats than were made.
     NotAll {
         /// The board, as it was.
@@ -87,17 +90,19 @@ impl From<AllocError> for OpenFault {
     }
 }
 
-impl<L: BoardName, R: Wait + Drop, J: Journal + Drop> Drop for Board<L, R, J> {
+impl<L: BoardName, R: Wait + Drop + Copy, J: Journal + Drop> Drop for Board<L, R, J> {
     // One call for an owner, and not a step for each part.
     fn drop(self) {
         let Board {
             shared: _shared,
+            alloc: _,
+            looked: _looked,
             workers: _workers,
         } = self;
     }
 }
 
-impl<L: BoardName, R: Wait + Drop, J: Journal> Board<L, R, J> {
+impl<L: BoardName, R: Wait + Drop + Copy, J: Journal> Board<L, R, J> {
     /// A board whose lines go to this journal, which has none so far, and a seat for each of 1 to 16 workers: the
     /// seat at place i is worker i's. `rt` waits for readers. Requests will wait by these rules. If it is refused,
     /// the journal is dropped.
@@ -133,6 +138,8 @@ impl<L: BoardName, R: Wait + Drop, J: Journal> Board<L, R, J> {
         )?;
         let board = Board {
             shared: Mutex::new(shared),
+            alloc,
+            looked: AtomicBool::new(false),
             workers: workers as usize,
         };
         Ok((board, seats))
@@ -194,6 +201,7 @@ impl<L: BoardName, R: Wait + Drop, J: Journal> Board<L, R, J> {
     {
         let (taken, stored) = {
             let mut shared = self.shared.lock(rt);
+            shared.cool_if_idle(self.was_read(), orders.len());
             let taken = shared.hand_in_all(seat, orders, tolds, lists);
             let stored = lists.count() == 0 || shared.store_if_due(seat);
             (taken, stored)
@@ -205,36 +213,57 @@ impl<L: BoardName, R: Wait + Drop, J: Journal> Board<L, R, J> {
         taken
     }
 
-    // Waits until all that was handed in through a seat is stored, or need not be. Until it is, others are refused.
+    // Tries again and again to store lines, until all that was handed in through a seat is stored, or need not be.
+    // Until it is, others are refused.
     fn wait_until_stored<W: Wait>(&self, rt: &W, seat: &mut Seat<L>)
         ensures { seat.new ≡ all_stored seat.old }
     {
         for _ in rt.forever() {
             pause(rt);
-            if self.is_stored(rt, seat) {
+            let mut shared = self.shared.lock(rt);
+            if shared.store_if_due(seat) {
                 return;
             }
         }
         unreachable!()
     }
 
-    // Tries again to store lines, and says whether all that was handed in through a seat is stored, or need not be.
-    fn is_stored<W: Wait>(&self, rt: &W, seat: &mut Seat<L>) -> bool
-        ensures noted { result ≡ true → seat.new ≡ all_stored seat.old }
-        ensures waits { result ≡ false → seat.new ≡ seat.old }
-    {
-        let mut shared = self.shared.lock(rt);
-        shared.store_if_due(seat)
+    // Whether somebody looked since this was asked last.
+    fn was_read(&self) -> bool {
+        let looked = self.looked.load(Ordering::SeqCst);
+        if looked {
+            self.looked.store(false, Ordering::SeqCst);
+        }
+        looked
     }
 
-    /// As `Seat::look`: it needs nothing of the board but what is published.
+    // Somebody looks.
+    fn note_look(&self) {
+        if !self.looked.load(Ordering::SeqCst) {
+            self.looked.store(true, Ordering::SeqCst);
+        }
+    }
+
+    /// As `Seat::look`: it needs nothing of the board but what is published. Nothing is while nobody has looked for
+    /// many orders that were handed in together: then `warm` makes it anew.
     pub fn look(&self, seat: &mut Seat<L>, order: &Order) -> Result<Result<Answer, Errno>, NoView>
         requires { only_reads order.now.op ≡ true }
         ensures same { KeepsHanded seat.old seat.new }
         ensures shown { IfOk result (λ answer. IsShown L.rules seat.old order.now answer seat.new) }
         ensures refused { OnErr result (seat.new ≡ seat.old) }
     {
+        self.note_look();
         seat.look(order)
+    }
+
+    /// Makes ready what looks read, if it was let go, and gives the seat a reader of it. If memory runs out, looks find
+    /// nothing still. No line, lock, count or history of a seat changes.
+    pub fn warm<W: Wait>(&self, rt: &W, seat: &mut Seat<L>)
+        ensures { seat.new ≡ seat.old }
+    {
+        self.note_look();
+        let mut shared = self.shared.lock(rt);
+        let _ = shared.warm(self.alloc, seat);
     }
 
     /// Shows two workers all that both handed in and were shown: looks of either show the orders of both from now on.
@@ -280,11 +309,18 @@ impl<L: BoardName, R: Wait + Drop, J: Journal> Board<L, R, J> {
         if seats.len() < self.workers {
             return Err(CloseFault::NotAll { board: self, seats });
         }
-        let Board { shared, workers } = self;
+        let Board {
+            shared,
+            alloc,
+            looked,
+            workers,
+        } = self;
         let shared = shared.into_inner();
         if !shared.begins_with(&seats) || !are_apart(&seats) {
             let board = Board {
                 shared: Mutex::new(shared),
+                alloc,
+                looked,
                 workers,
             };
             return Err(CloseFault::NoView { board, seats });
@@ -296,7 +332,7 @@ impl<L: BoardName, R: Wait + Drop, J: Journal> Board<L, R, J> {
     }
 }
 
-impl<L: BoardName, R: Wait + Drop> Board<L, R> {
+impl<L: BoardName, R: Wait + Drop + Copy> Board<L, R> {
     /// A board, and a seat for each of 1 to 16 workers: the seat at place i is worker i's. `rt` waits for readers.
     /// Requests will wait by these rules.
     pub fn new(
@@ -347,7 +383,7 @@ fn pause<W: Wait>(rt: &W) {
 }
 
 // A seat for each worker, with a part of the ledger.
-fn seats_of<L: BoardName, R: Wait + Drop>(
+fn seats_of<L: BoardName, R: Wait + Drop + Copy>(
     alloc: Global,
     writer: &ReplicaWriter<L, R>,
     none: &Beginning<L, Ask>,

@@ -13,7 +13,7 @@ use fl_log::BoardName;
 use fl_order::{Answer, Errno, Order};
 use std::sync::Wait;
 
-impl<L: BoardName, P: Wait + Drop, J: Journal> Counter for Board<L, P, J> {
+impl<L: BoardName, P: Wait + Drop + Copy, J: Journal> Counter for Board<L, P, J> {
     type Seat = Seat<L>;
 
     ghost count = { λ seat. seat.count };
@@ -43,7 +43,11 @@ impl<L: BoardName, P: Wait + Drop, J: Journal> Counter for Board<L, P, J> {
     }
 
     fn look(&self, seat: &mut Seat<L>, order: &Order) -> Result<Result<Answer, Errno>, NoView> {
-        seat.look(order)
+        Board::look(self, seat, order)
+    }
+
+    fn warm<R: Wait>(&self, rt: &R, seat: &mut Seat<L>) {
+        Board::warm(self, rt, seat);
     }
 
     fn pause<R: Wait>(&self, rt: &R) {

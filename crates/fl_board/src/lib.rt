@@ -1,10 +1,10 @@
 //! A board at which workers hand orders in under one lock, and look without it.
 //!
-//! `hand_in`, `hand_in_all`, `meet` and `pause` wait for the lock. `hand_in` and `hand_in_all` also wait, without the
-//! lock, until what they took is stored, if its journal has it that replies wait for their lines. A publication, and
-//! letting the writer go, wait for readers of a replica: so `new`, `over`, `hand_in`, `hand_in_all`, `close` and
-//! `into_journal` may wait too. In all but `hand_in` and `hand_in_all` nobody reads then, as their code shows.
-//! `Board::look` counts as a call that may wait, since it is given a board. `Seat::look` has no right to wait.
+//! `hand_in`, `hand_in_all`, `meet`, `warm` and `pause` wait for the lock. `hand_in` and `hand_in_all` also wait,
+//! without the lock, until what they took is stored, if its journal has it that replies wait for their lines. A
+//! publication, and letting the writer go, wait for readers of a replica: so `new`, `over`, `hand_in`, `hand_in_all`,
+//! `close` and `into_journal` may wait too. In all but `hand_in` and `hand_in_all` nobody reads then, as their code
+//! shows. `Board::look` counts as a call that may wait, since it is given a board. `Seat::look` has no right to wait.
 //!
 //! No contract says what `pause` does, nor that a call which waits for the lock or for lines returns. Callers don't see
 //! what lies under the lock, so no contract limits when `hand_in` or `hand_in_all` says `NoView`. `meet` and `close`
@@ -15,15 +15,18 @@
 //!   publishes for each order;
 //! - one that waits for its lines, or sends what is outgoing, under the lock, or waits while something is outgoing;
 //! - one that counts its lines as stored before they are: then `into_journal` says `NoView`, if they aren't by then;
-//! - a `hand_in` or `hand_in_all` that ends publication as if memory had run out: then every later look is `NoView`.
-//! `fl_book_tests` refuses these, the last by `a_seat_without_the_right_to_wait_is_shown_each_order`; that one waits
-//! for its lines, and how, is seen by `tests/serve/traces.py` alone. Nothing sees a `hand_in_all` that stores its lines
+//! - a `hand_in` or `hand_in_all` that ends publication as if memory had run out: then every later look is `NoView`;
+//! - a `hand_in_all` that lets the copies that looks read go too soon or never, and a `warm` that makes none.
+//! `fl_book_tests` refuses these, the last two by `a_seat_without_the_right_to_wait_is_shown_each_order` and
+//! `looks_find_nothing_after_many_orders_until_copies_are_made_anew`; that one waits for its lines, and how, is seen by
+//! `tests/serve/traces.py` alone. Nothing sees a `hand_in_all` that stores its lines
 //! only once it has let the lock go, so that others may take orders in between.
 #![tactic(auto)]
 
 mod asks;
 mod board;
 mod counter;
+mod idle;
 mod record;
 mod seat;
 mod shared;

@@ -1,6 +1,6 @@
 //! What is recorded under a board's lock.
 
-ghost use Rattle.std.specs.Prelude.{◌≡◌, ◌<◌, ◌≤◌, ◌^◌, ◌+◌, ◌++◌, ◌∷◌, [], Err, Some, length};
+ghost use Rattle.std.specs.Prelude.{◌≡◌, ◌<◌, ◌≤◌, ◌^◌, ◌+◌, ◌++◌, ◌∷◌, ◌⊎◌, [], Err, None, Some, IsSome, length};
 ghost use Rattle.std.specs.Prelude.{IfOk, IfSome, OnOk, OnErr, IsTrue, MatchResult, List};
 ghost use mathlib.Core.List.{IsPrefix};
 ghost use Rattle.fl_board.specs.Inside.Asks.{history_of};
@@ -29,7 +29,7 @@ use std::sync::ledger::{Book, Share};
 /// in, and all of it; and the writer that publishes it. Contracts see the asks that were handed in, those that are
 /// published, and the lines that the desk's journal has stored.
 #[derive(Drop)]
-pub(crate) struct Record<L: BoardName, R: Wait + Drop, J: Journal> {
+pub(crate) struct Record<L: BoardName, R: Wait + Drop + Copy, J: Journal> {
     pub desk: Desk<J>,
     pub book: Book<L>,
     pub log: Log<L, Ask>,
@@ -37,7 +37,7 @@ pub(crate) struct Record<L: BoardName, R: Wait + Drop, J: Journal> {
     pub writer: ReplicaWriter<L, R>,
 }
 
-impl<L: BoardName, R: Wait + Drop, J: Journal> Model for Record<L, R, J> {
+impl<L: BoardName, R: Wait + Drop + Copy, J: Journal> Model for Record<L, R, J> {
     ghost use Rattle.std.specs.Prelude.{◌≡◌};
     ghost use Rattle.fl_board.specs.Inside.Asks.{history_of};
     ghost use Rattle.fl_desk.specs.Legal.{orders_asked};
@@ -52,7 +52,7 @@ impl<L: BoardName, R: Wait + Drop, J: Journal> Model for Record<L, R, J> {
         × (s.desk.present ≡ present_after L.rules s.all) × (s.book.total ≡ orders_asked s.desk.lines) };
 }
 
-impl<L: BoardName, R: Wait + Drop, J: Journal> Record<L, R, J> {
+impl<L: BoardName, R: Wait + Drop + Copy, J: Journal> Record<L, R, J> {
     /// The record of a board that has taken no order, with a place for so many readers. `rt` waits for these.
     pub(crate) fn over(
         alloc: Global,
@@ -73,9 +73,10 @@ impl<L: BoardName, R: Wait + Drop, J: Journal> Record<L, R, J> {
         ensures { IfOk result (λ made. made ≡ record { asks = []; shown = Some []; stored = J.stored journal }) }
     {
         let (log, all) = log.named::<L>();
-        let writer = ReplicaWriter::new(alloc, rt, &all, readers, MOST_IN_BATCH, rules)?;
+        let desk = Desk::over(alloc, journal, rules)?;
+        let writer = ReplicaWriter::new(alloc, rt, desk.present(), &all, readers, MOST_IN_BATCH)?;
         Ok(Record {
-            desk: Desk::over(alloc, journal, rules)?,
+            desk,
             book: ledger,
             log,
             all,
@@ -165,6 +166,26 @@ impl<L: BoardName, R: Wait + Drop, J: Journal> Record<L, R, J> {
             lists.push(tolds.as_slice());
         }
         Ok(())
+    }
+
+    /// Lets what is published go. Nothing is published from here on, until `warm`.
+    pub(crate) fn cool(&mut self)
+        ensures asks { self.new.asks ≡ self.old.asks }
+        ensures shown { self.new.shown ≡ None }
+        ensures stored { self.new.stored ≡ self.old.stored }
+    {
+        self.writer.cool();
+    }
+
+    /// Publishes all that was taken, if nothing is published. A refusal changes nothing.
+    pub(crate) fn warm(&mut self, alloc: Global) -> Result<(), NoMemory>
+        ensures asks { self.new.asks ≡ self.old.asks }
+        ensures shown { OnOk result ((self.new.shown ≡ Some self.old.asks)
+            ⊎ (IsSome self.old.shown × (self.new.shown ≡ self.old.shown))) }
+        ensures stored { self.new.stored ≡ self.old.stored }
+        ensures refused { OnErr result (self.new ≡ self.old) }
+    {
+        self.writer.warm(alloc, self.desk.present())
     }
 
     /// Publishes all that was taken.

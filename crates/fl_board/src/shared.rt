@@ -12,6 +12,7 @@ ghost use Rattle.fl_core.specs.Tolds.{HasRoom};
 ghost use Rattle.fl_desk.specs.Legal.{IsLegal, LeavesLawful, orders_asked};
 
 use crate::asks::asks_lead;
+use crate::idle::Idle;
 use crate::record::Record;
 use crate::seat::Seat;
 use fl_core::{Rules, Tolds};
@@ -27,13 +28,14 @@ use std::sync::ledger::{Book, Share};
 /// The record, of which all that was handed in is published. Contracts see the asks that were handed in, and a
 /// beginning of them whose lines the journal has stored.
 #[derive(Drop)]
-pub(crate) struct Shared<L: BoardName, R: Wait + Drop, J: Journal> {
+pub(crate) struct Shared<L: BoardName, R: Wait + Drop + Copy, J: Journal> {
     pub record: Record<L, R, J>,
     // What had been handed in when all lines were stored last, or didn't have to be.
     stored: Beginning<L, Ask>,
+    idle: Idle,
 }
 
-impl<L: BoardName, R: Wait + Drop, J: Journal> Model for Shared<L, R, J> {
+impl<L: BoardName, R: Wait + Drop + Copy, J: Journal> Model for Shared<L, R, J> {
     ghost use Rattle.std.specs.Prelude.{◌≡◌, IfSome};
     ghost use mathlib.Core.List.{IsPrefix};
     ghost use Rattle.fl_board.specs.Inside.Asks.{history_of};
@@ -47,7 +49,7 @@ impl<L: BoardName, R: Wait + Drop, J: Journal> Model for Shared<L, R, J> {
         × IsPrefix (history_of L.rules s.stored) s.record.stored };
 }
 
-impl<L: BoardName, R: Wait + Drop, J: Journal> Shared<L, R, J> {
+impl<L: BoardName, R: Wait + Drop + Copy, J: Journal> Shared<L, R, J> {
     /// What lies under the lock of a board that has taken no order, with a place for so many readers. `rt` waits for
     /// these.
     pub(crate) fn over(
@@ -70,7 +72,11 @@ impl<L: BoardName, R: Wait + Drop, J: Journal> Shared<L, R, J> {
     {
         let record = Record::over(alloc, rt, journal, ledger, log, readers, rules)?;
         let stored = record.all.again();
-        Ok(Shared { record, stored })
+        Ok(Shared {
+            record,
+            stored,
+            idle: Idle::new(rules),
+        })
     }
 
     /// Takes an order of the seat's worker, counts it, and publishes it. It is refused while lines of orders before it
@@ -121,6 +127,26 @@ impl<L: BoardName, R: Wait + Drop, J: Journal> Shared<L, R, J> {
         let taken = self.record.take_all(seat, orders, tolds, lists);
         self.record.publish();
         taken
+    }
+
+    /// So many orders come, and somebody looked since the last ones, or not. Lets what looks read go, if nobody has for
+    /// long: they find nothing from here on, until `warm`.
+    pub(crate) fn cool_if_idle(&mut self, looked: bool, orders: usize)
+        ensures { self.new ≡ self.old }
+    {
+        if self.idle.is_long(looked, orders) {
+            self.record.cool();
+        }
+    }
+
+    /// Makes what looks read anew, if it was let go, and gives the seat a reader of it. A refusal changes nothing.
+    pub(crate) fn warm(&mut self, alloc: Global, seat: &mut Seat<L>) -> Result<(), NoMemory>
+        ensures same { self.new ≡ self.old }
+        ensures seat { seat.new ≡ seat.old }
+    {
+        self.record.warm(alloc)?;
+        seat.reader = self.record.writer.reader()?;
+        Ok(())
     }
 
     /// Shows two workers all that was handed in.
@@ -202,6 +228,7 @@ impl<L: BoardName, R: Wait + Drop, J: Journal> Shared<L, R, J> {
         let Shared {
             record,
             stored: _stored,
+            idle: _idle,
         } = self;
         record.into_journal(whole)
     }

@@ -1,3 +1,4 @@
 mod Adding
 mod Counts
+mod Nothing
 mod Prefixes

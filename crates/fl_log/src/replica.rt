@@ -1,6 +1,6 @@
 //! The copies of the directory that looks read.
 
-ghost use Rattle.std.specs.Prelude.{◌≡◌, ◌↔◌, [], true, Some, IfOk, IfSome, IsSome};
+ghost use Rattle.std.specs.Prelude.{◌≡◌, ◌↔◌, true, Some, IfOk, IfSome, IsSome};
 ghost use Rattle.fl_core.specs.Replies.{own_replies};
 ghost use Rattle.fl_core.specs.Step.{next, replies};
 ghost use Rattle.fl_log.specs.Asks.{present_after};
@@ -9,7 +9,7 @@ ghost use Rattle.fl_order.specs.Order.{only_reads};
 use crate::ask::Ask;
 use crate::beginning::Beginning;
 use crate::board_name::BoardName;
-use fl_core::{Core, Rules, Tolds};
+use fl_core::{Core, Tolds};
 use fl_order::{Answer, Errno, NoMemory, Order};
 use left_right::{Absorb, ReadHandle};
 use std::alloc::{AllocError, Global};
@@ -84,21 +84,20 @@ impl<L: BoardName> Model for Replica<L> {
 }
 
 impl<L: BoardName> Replica<L> {
-    /// The directory as it opens, under these rules.
-    pub(crate) fn new(
+    /// A copy of a directory that these asks led to.
+    pub(crate) fn of(
         alloc: Global,
-        none: &Beginning<L, Ask>,
-        rules: Rules,
+        core: &Core,
+        asks: &Beginning<L, Ask>,
     ) -> Result<Replica<L>, NoMemory>
-        requires none { none.now ≡ [] }
-        requires rules { rules ≡ L.rules }
-        ensures { IfOk result (λ replica. replica ≡ []) }
+        requires core { core.now ≡ present_after L.rules asks.now }
+        ensures { IfOk result (λ replica. replica ≡ asks.now) }
     {
-        let tolds = Tolds::new(alloc, rules)?;
-        let core = Core::new(alloc, rules)?;
+        let tolds = Tolds::new(alloc, core.rules())?;
+        let core = core.try_clone(alloc)?;
         Ok(Replica {
             core,
-            asks: none.again(),
+            asks: asks.again(),
             tolds,
         })
     }

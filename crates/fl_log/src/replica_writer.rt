@@ -1,6 +1,6 @@
 //! The writer of what looks read.
 
-ghost use Rattle.std.specs.Prelude.{◌≡◌, ◌<◌, ◌^◌, ◌⊎◌, ◌↔◌, [], None, Some, IfOk, IfSome, IsSome, OnOk};
+ghost use Rattle.std.specs.Prelude.{◌≡◌, ◌<◌, ◌^◌, ◌⊎◌, ◌↔◌, [], true, None, Some, IfOk, IfSome, IsSome, OnOk, OnErr};
 ghost use Rattle.left_right.specs.Handles.{published, pending};
 ghost use Rattle.fl_core.specs.Replies.{own_replies};
 ghost use Rattle.fl_core.specs.Step.{next, replies};
@@ -11,7 +11,7 @@ use crate::ask::Ask;
 use crate::beginning::Beginning;
 use crate::board_name::BoardName;
 use crate::replica::{Replica, Update};
-use fl_core::Rules;
+use fl_core::Core;
 use fl_order::{Answer, Errno, NoMemory, Op, Order};
 use left_right::{Absorb, ReadHandle, WriteHandle};
 use std::alloc::{AllocError, Global};
@@ -19,18 +19,31 @@ use std::marker::Model;
 use std::sync::Wait;
 
 /// The writer of both copies. Contracts see the asks that were added, and those that led to what is published. If
-/// memory for an update runs out, nothing is published any more, and readers find nothing. Letting it go waits for
-/// readers that are in a copy.
-pub struct ReplicaWriter<L: BoardName, R: Wait + Drop>
+/// memory for an update runs out, or the copies are let go, readers find nothing until new ones are made. Letting them
+/// go waits for readers that are in a copy.
+pub struct ReplicaWriter<L: BoardName, R: Wait + Drop + Copy>
 where
     Replica<L>: Absorb<Update<L>, State = Beginning<L, Ask>>,
 {
-    // None once memory for an update ran out.
+    // None if there are no copies.
     writer: Option<WriteHandle<Replica<L>, Update<L>, R>>,
     asks: Beginning<L, Ask>,
+    making: Making<L, R>,
 }
 
-impl<L: BoardName, R: Wait + Drop> Model for ReplicaWriter<L, R>
+// With what copies are made: what waits for readers, the places for these, how many updates come between two
+// publications, and no asks.
+#[derive(Drop)]
+struct Making<L: BoardName, R: Wait + Drop + Copy> {
+    rt: R,
+    readers: usize,
+    most: usize,
+    none: Beginning<L, Ask>,
+    ghost some: { (0 < readers) × (readers < 2 ^ 32) },
+    ghost nothing: { none ≡ [] },
+}
+
+impl<L: BoardName, R: Wait + Drop + Copy> Model for ReplicaWriter<L, R>
 where
     Replica<L>: Absorb<Update<L>, State = Beginning<L, Ask>>,
 {
@@ -46,38 +59,43 @@ where
     ghost invariant = { λ p. IfSome p.writer (λ w. in_the_end (published w) (pending w) ≡ p.asks) };
 }
 
-impl<L: BoardName, R: Wait + Drop> Drop for ReplicaWriter<L, R> {
+impl<L: BoardName, R: Wait + Drop + Copy> Drop for ReplicaWriter<L, R> {
     fn drop(self) {
         let Self {
             writer: _writer,
             asks: _asks,
+            making: _making,
         } = self;
     }
 }
 
-impl<L: BoardName, R: Wait + Drop> ReplicaWriter<L, R> {
-    /// A writer of the directory as it opens under these rules, with a place for so many readers. Updates take no
-    /// memory if no more than `most` are added between two publications.
+impl<L: BoardName, R: Wait + Drop + Copy> ReplicaWriter<L, R> {
+    /// A writer of a directory that took no ask so far, with a place for so many readers. Updates take no memory if no
+    /// more than `most` are added between two publications.
     pub fn new(
         alloc: Global,
         rt: R,
+        core: &Core,
         none: &Beginning<L, Ask>,
         readers: usize,
         most: usize,
-        rules: Rules,
     ) -> Result<ReplicaWriter<L, R>, NoMemory>
         requires none { none.now ≡ [] }
         requires readers { (0 < readers) × (readers < 2 ^ 32) }
-        requires rules { rules ≡ L.rules }
+        requires core { core.now ≡ present_after L.rules [] }
         ensures { IfOk result (λ writer. writer ≡ record { asks = []; shown = Some [] }) }
     {
-        let first = Replica::new(alloc, none, rules)?;
-        let second = Replica::new(alloc, none, rules)?;
-        let mut writer = WriteHandle::new(alloc, rt, first, second, readers)?;
-        grow(&mut writer, none, most)?;
+        let making = Making {
+            rt,
+            readers,
+            most,
+            none: none.again(),
+        };
+        let writer = making.writer(alloc, core, none)?;
         Ok(ReplicaWriter {
             writer: Some(writer),
             asks: none.again(),
+            making,
         })
     }
 
@@ -91,7 +109,7 @@ impl<L: BoardName, R: Wait + Drop> ReplicaWriter<L, R> {
 
     /// Keeps an order to be published, which stands behind the asks of `before`. Those of `after` are they and the
     /// order. If it is known what the order was told alone (`Tolds::own_alone`), a copy tests less. If memory runs out,
-    /// nothing is published any more.
+    /// the copies are let go.
     pub fn add(
         &mut self,
         order: &Order,
@@ -108,15 +126,36 @@ impl<L: BoardName, R: Wait + Drop> ReplicaWriter<L, R> {
     {
         self.asks = after.again();
         let kept = match &mut self.writer {
-            Some(writer) => {
-                let update = Update::new(order, alone, before, after);
-                writer.append(update).is_ok()
-            }
+            Some(writer) => keep(writer, order, alone, before, after),
             None => true,
         };
         if !kept {
             self.writer = None;
         }
+    }
+
+    /// Lets both copies go, once no reader is in one. Nothing is published from here on, until `warm`.
+    pub fn cool(&mut self)
+        ensures asks { self.new.asks ≡ self.old.asks }
+        ensures shown { self.new.shown ≡ None }
+    {
+        self.writer = None;
+    }
+
+    /// Makes two copies of the directory that all asks led to, and publishes it, if there are none. A refusal changes
+    /// nothing.
+    pub fn warm(&mut self, alloc: Global, core: &Core) -> Result<(), NoMemory>
+        requires core { core.now ≡ present_after L.rules self.old.asks }
+        ensures asks { self.new.asks ≡ self.old.asks }
+        ensures shown { OnOk result ((self.new.shown ≡ Some self.old.asks)
+            ⊎ (IsSome self.old.shown × (self.new.shown ≡ self.old.shown))) }
+        ensures refused { OnErr result (self.new ≡ self.old) }
+    {
+        if self.writer.is_none() {
+            let writer = self.making.writer(alloc, core, &self.asks)?;
+            self.writer = Some(writer);
+        }
+        Ok(())
     }
 
     /// Publishes all updates, once no reader is in the copy that was published before the last one.
@@ -131,17 +170,56 @@ impl<L: BoardName, R: Wait + Drop> ReplicaWriter<L, R> {
     }
 }
 
+impl<L: BoardName, R: Wait + Drop + Copy> Making<L, R> {
+    // A writer of two copies of a directory that these asks led to.
+    fn writer(
+        &self,
+        alloc: Global,
+        core: &Core,
+        asks: &Beginning<L, Ask>,
+    ) -> Result<WriteHandle<Replica<L>, Update<L>, R>, NoMemory>
+        requires core { core.now ≡ present_after L.rules asks.now }
+        ensures published { IfOk result (λ w. published w ≡ asks.now) }
+        ensures end { IfOk result (λ w. in_the_end (published w) (pending w) ≡ asks.now) }
+    {
+        let first = Replica::of(alloc, core, asks)?;
+        let second = Replica::of(alloc, core, asks)?;
+        let mut writer = WriteHandle::new(alloc, self.rt, first, second, self.readers)?;
+        grow(&mut writer, &self.none, self.most)?;
+        Ok(writer)
+    }
+}
+
+// Keeps an order to be published, and says whether there was memory for it.
+fn keep<L: BoardName, R: Wait + Drop + Copy>(
+    writer: &mut WriteHandle<Replica<L>, Update<L>, R>,
+    order: &Order,
+    alone: Option<Option<Result<Answer, Errno>>>,
+    before: &Beginning<L, Ask>,
+    after: &Beginning<L, Ask>,
+) -> bool
+    requires before { in_the_end (published writer.old) (pending writer.old) ≡ before.now }
+    requires next { present_after L.rules after.now ≡ next (present_after L.rules before.now) order.now }
+    requires alone { IfSome alone (λ reply.
+        replies (present_after L.rules before.now) order.now ≡ own_replies order.now reply) }
+    ensures shown { published writer.new ≡ published writer.old }
+    ensures end { result ≡ true → in_the_end (published writer.new) (pending writer.new) ≡ after.now }
+{
+    let update = Update::new(order, alone, before, after);
+    writer.append(update).is_ok()
+}
+
 // The writer's list of updates grows to the size that it keeps, so that no later update wants memory: it has those of
 // two publications, each of at most so many.
-fn grow<L: BoardName, R: Wait + Drop>(
+fn grow<L: BoardName, R: Wait + Drop + Copy>(
     writer: &mut WriteHandle<Replica<L>, Update<L>, R>,
     none: &Beginning<L, Ask>,
     most: usize,
 ) -> Result<(), AllocError>
     requires none { none.now ≡ [] }
-    requires first { in_the_end (published writer.old) (pending writer.old) ≡ [] }
-    ensures end { OnOk result (in_the_end (published writer.new) (pending writer.new) ≡ []) }
-    ensures shown { OnOk result (published writer.new ≡ []) }
+    ensures end { OnOk result (in_the_end (published writer.new) (pending writer.new)
+        ≡ in_the_end (published writer.old) (pending writer.old)) }
+    ensures shown { OnOk result (published writer.new ≡ in_the_end (published writer.old) (pending writer.old)) }
 {
     add_nothing(writer, none, most)?;
     writer.publish()?;
@@ -150,14 +228,15 @@ fn grow<L: BoardName, R: Wait + Drop>(
 }
 
 // Adds so many updates that change nothing.
-fn add_nothing<L: BoardName, R: Wait + Drop>(
+#[tactic(auto, using(crate::proofs::Nothing::changes_nothing))]
+fn add_nothing<L: BoardName, R: Wait + Drop + Copy>(
     writer: &mut WriteHandle<Replica<L>, Update<L>, R>,
     none: &Beginning<L, Ask>,
     count: usize,
 ) -> Result<(), AllocError>
     requires none { none.now ≡ [] }
-    requires first { in_the_end (published writer.old) (pending writer.old) ≡ [] }
-    ensures end { OnOk result (in_the_end (published writer.new) (pending writer.new) ≡ []) }
+    ensures end { OnOk result (in_the_end (published writer.new) (pending writer.new)
+        ≡ in_the_end (published writer.old) (pending writer.old)) }
 {
     for _ in 0..count {
         writer.append(nothing(none)).map_err(|_| AllocError)?;

@@ -180,7 +180,7 @@ fn say<N: WriterName, W: Write>(
 
 // The result of a session whose workers gave all seats back, with this fault. If the board can't give the history, or
 // it isn't known that each reply was given to be sent, the fault is `NoReader`.
-fn close_board<L: BoardName, R: Wait + Drop, J: Journal + Drop>(
+fn close_board<L: BoardName, R: Wait + Drop + Copy, J: Journal + Drop>(
     alloc: Global,
     board: Board<L, R, J>,
     seats: Vec<Seat<L>>,

@@ -337,7 +337,7 @@ fn joined<L: BoardName, N: WriterName, R: Threads>(
 pub(crate) fn handed_in<
     L: BoardName,
     N: WriterName,
-    P: Wait + Drop,
+    P: Wait + Drop + Copy,
     R: Wait,
     W: Write,
     G: Gate,

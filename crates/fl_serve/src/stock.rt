@@ -53,7 +53,7 @@ impl<L: BoardName, N: WriterName> Stock<L, N> {
 
 /// A board over this journal, with a seat for each of so many workers, and all else that a session under these rules
 /// has before its first read.
-pub(crate) fn opened<L: BoardName, N: WriterName, R: Wait + Drop, J: Journal + Drop>(
+pub(crate) fn opened<L: BoardName, N: WriterName, R: Wait + Drop + Copy, J: Journal + Drop>(
     alloc: Global,
     rt: R,
     journal: J,

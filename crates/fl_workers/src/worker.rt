@@ -14,7 +14,7 @@ ghost use Rattle.fl_workers.specs.Worked.{HasDone, HasWorked, standing};
 use crate::entry::ReplyEntry;
 use crate::room::{BatchRoom, ReplyRoom};
 use crate::sender::{SharedSender, WriterName};
-use fl_desk::{Counter, Gate, Outgoing, ToldLists};
+use fl_desk::{Counter, Gate, NoView, Outgoing, ToldLists};
 use fl_intake::{Intake, Job, TakeEnd};
 use fl_log::Appender;
 use fl_order::{Order, Told};
@@ -157,7 +157,7 @@ fn handle_next<R: Wait, C: Counter, G: Gate, W: Write, N: WriterName>(
         result.1.refused result.1.lost }
 {
     let Post { seat, own } = post;
-    if let Some(told) = looked(counter, seat, &orders[0]) {
+    if let Some(told) = looked(rt, counter, seat, &orders[0]) {
         let lost = give(rt, gate, sender, own, &Response::One(told));
         let failures = Failures {
             refused: false,
@@ -242,8 +242,14 @@ fn refuse<R: Wait, G: Gate, W: Write, N: WriterName>(
     }
 }
 
-// The reply to an order that only reads, for which something could be shown. None of it is handed in.
-fn looked<C: Counter>(counter: &C, seat: &mut C::Seat, order: &Order) -> Option<Told>
+// The reply to an order that only reads, for which something could be shown, once what looks read is ready. None of it
+// is handed in.
+fn looked<R: Wait, C: Counter>(
+    rt: &R,
+    counter: &C,
+    seat: &mut C::Seat,
+    order: &Order,
+) -> Option<Told>
     ensures own { C.worker seat.new ≡ C.worker seat.old }
     ensures kept { (C.count seat.new ≡ C.count seat.old) × (C.answered seat.new ≡ C.answered seat.old) }
     ensures stored { C.stored seat.new ≡ C.stored seat.old }
@@ -257,7 +263,13 @@ fn looked<C: Counter>(counter: &C, seat: &mut C::Seat, order: &Order) -> Option<
     if !order.only_reads() {
         return None;
     }
-    let result = counter.look(seat, order).ok()?;
+    let result = match counter.look(seat, order) {
+        Ok(result) => result,
+        Err(NoView) => {
+            counter.warm(rt, seat);
+            counter.look(seat, order).ok()?
+        }
+    };
     Some(Told {
         unique: order.unique,
         result,

@@ -40,7 +40,7 @@ fn counts_are(rt: &impl Abort, lists: &ToldLists, wanted: &[usize]) {
 }
 
 // A batch at the first seat, and how many replies each order was given.
-fn handed_in<L: BoardName, R: Wait + Abort>(
+pub(super) fn handed_in<L: BoardName, R: Wait + Abort>(
     rt: &R,
     alloc: Global,
     rules: Rules,

@@ -3,6 +3,7 @@
 ghost use Rattle.std.specs.Prelude.{◌≡◌};
 ghost use Rattle.fl_core.specs.Tolds.{HasRoom};
 
+use super::batches::handed_in;
 use super::{closed, create, has_lines, new_tolds, opened, order, take, upto};
 use fl_book::{Ask, Board, BoardName, FreshLog, History, Rules, Seat};
 use fl_core::Tolds;
@@ -78,4 +79,55 @@ fn a_seat_without_the_right_to_wait_is_shown_each_order(rt: HostRuntime) {
     let history = shown_each::<Brand, _>(&rt, rt.alloc(), Blank::new(1), FreshLog::new(), rules);
     // The CREATE and the locks, with a reply each: looks are no lines.
     has_lines(&rt, &history, 42);
+}
+
+// Whether a look finds something.
+fn finds<L: BoardName, R: Wait>(board: &Board<L, &R>, seats: &mut [Seat<L>]) -> bool {
+    let ask = order(90, 1, Op::Getattr);
+    match seats.first_mut() {
+        Some(seat) => board.look(seat, &ask).is_ok(),
+        None => false,
+    }
+}
+
+// What looks read is made anew.
+fn warms<L: BoardName, R: Wait>(rt: &R, board: &Board<L, &R>, seats: &mut [Seat<L>]) {
+    if let Some(seat) = seats.first_mut() {
+        board.warm(rt, seat);
+    }
+}
+
+// A board takes sixteen orders, and 32 after a look.
+fn idle<L: BoardName, R: Wait + Abort>(
+    rt: &R,
+    alloc: Global,
+    blank: Blank,
+    log: FreshLog<Ask>,
+    rules: Rules,
+) -> History
+    requires named { (blank.name ≡ L.name) × (blank.parts ≡ L.parts) }
+    requires log { log ≡ L.log }
+    requires rules { rules ≡ L.rules }
+    requires parts { (1 ≡ L.parts) × (L.workers ≡ L.parts) }
+{
+    let (board, mut seats) = opened::<L, R>(rt, alloc, blank, log, 1, rules);
+    let batch = [order(1, 1, Op::Getattr); 16];
+    handed_in(rt, alloc, rules, &board, &mut seats, &batch, &[1; 16]);
+    assert!(rt; finds(&board, &mut seats));
+    handed_in(rt, alloc, rules, &board, &mut seats, &batch, &[1; 16]);
+    handed_in(rt, alloc, rules, &board, &mut seats, &batch, &[1; 16]);
+    assert!(rt; !finds(&board, &mut seats));
+    warms(rt, &board, &mut seats);
+    assert!(rt; finds(&board, &mut seats));
+    closed(rt, board, seats)
+}
+
+// With four slots, 24 orders are long enough.
+#[test]
+fn looks_find_nothing_after_many_orders_until_copies_are_made_anew(rt: HostRuntime) {
+    let limited = Rules::standard().with_limits(1, 1);
+    let rules = limited.expect(&rt, "rules").with_files(1, 1);
+    let rules = rules.expect(&rt, "rules");
+    let history = idle::<Brand, _>(&rt, rt.alloc(), Blank::new(1), FreshLog::new(), rules);
+    has_lines(&rt, &history, 96);
 }

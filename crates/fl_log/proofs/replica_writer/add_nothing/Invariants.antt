@@ -1,8 +1,8 @@
-use Rattle.std.proofs.Common.{◌≡◌, []}
+use Rattle.std.proofs.Common.{◌≡◌}
 use Rattle.left_right.specs.Handles.{published, pending}
 use Rattle.fl_log.specs.Inside.Updates.{in_the_end}
 use Rattle.fl_log.proofs.replica_writer.add_nothing.Given as goal
 
 -- all that was added changes nothing
 abbrev pub invariant-loop : goal.invariant-loop
-invariant-loop g l = in_the_end (published l.writer) (pending l.writer) ≡ []
+invariant-loop g l = in_the_end (published l.writer) (pending l.writer) ≡ in_the_end (published l.fn.writer) (pending l.fn.writer)

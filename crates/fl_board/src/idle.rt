@@ -1,0 +1,35 @@
+//! For how long nobody has looked.
+
+use fl_core::Rules;
+
+// So many orders for each slot of a core: some fifteen times what it costs to make new copies.
+const ORDERS_A_SLOT: u64 = 6;
+
+/// How many orders were handed in together since somebody looked, and how many it takes until the copies that looks
+/// read are let go. It concerns only how fast a board is.
+#[derive(Drop)]
+pub(crate) struct Idle {
+    orders: u64,
+    most: u64,
+}
+
+impl Idle {
+    /// None so far, of a board with these rules: 33,792 by the standard ones.
+    pub(crate) fn new(rules: Rules) -> Idle {
+        let slots = rules.runs as u64
+            + rules.parked as u64
+            + rules.files as u64
+            + rules.open_files as u64;
+        Idle {
+            orders: 0,
+            most: slots * ORDERS_A_SLOT,
+        }
+    }
+
+    /// So many orders come, and somebody looked since the last ones, or not: whether nobody has for long.
+    pub(crate) fn is_long(&mut self, looked: bool, orders: usize) -> bool {
+        let before = if looked { 0 } else { self.orders };
+        self.orders = before.saturating_add(orders as u64);
+        self.orders >= self.most
+    }
+}
