@@ -147,13 +147,18 @@ static bool is_mounted(dev_t device)
     return found;
 }
 
-bool connection_lives(dev_t device, struct holders *holders)
+bool is_connected(dev_t device)
 {
     char connection[64];
+    snprintf(connection, sizeof connection, "/sys/fs/fuse/connections/%u", minor(device));
+    return !access(connection, F_OK);
+}
+
+bool connection_lives(dev_t device, struct holders *holders)
+{
     find_holders(device, holders);
     // Files under way in a socket have no holder. But the kernel may tell that it has the
     // connection, and it isn't mounted.
-    snprintf(connection, sizeof connection, "/sys/fs/fuse/connections/%u", minor(device));
-    bool lives = holders->count || (!access(connection, F_OK) && !is_mounted(device));
+    bool lives = holders->count || (is_connected(device) && !is_mounted(device));
     return lives && !is_given_again(device, holders);
 }

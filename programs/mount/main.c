@@ -177,6 +177,7 @@ static void begin(void)
     times_start(mount.options.times);
     server_start(&mount.server, &mount.options, stops);
     const struct options *options = &mount.options;
+    place_clear(&mount.place, options, stops);
     names_start(options->files, options->mode < 0 ? mount.place.below.st_mode : (mode_t)options->mode,
                 options->uid < 0 ? mount.place.below.st_uid : (uid_t)options->uid,
                 options->gid < 0 ? mount.place.below.st_gid : (gid_t)options->gid);

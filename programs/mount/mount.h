@@ -106,12 +106,16 @@ struct place {
     struct stat below;
     char path[PATH_MAX];
     dev_t mounted; // the device number of the mount, or 0
+    dev_t dead; // that of a dead mount, which is at the folder until `place_clear`, or 0
     bool is_root;
 };
 
 // Opens the folder and refuses what can't be mounted at. Waits a moment for an earlier mount of it that
-// ends, and as long as the grace says for its open files.
+// ends, and as long as the grace says for its open files. Under a dead mount the folder can't be opened yet.
 void place_open(struct place *place, const struct options *options, bool (*stops)(void));
+// Takes a dead mount away, and opens the folder then, in the same way: right before another one is mounted, so that in between hardly
+// anybody gets into the folder below.
+void place_clear(struct place *place, const struct options *options, bool (*stops)(void));
 // Mounts, and gives the open device, or -1 with a line said.
 int place_mount(struct place *place, const struct options *options);
 // Whether the mount is still at its folder.
@@ -142,6 +146,8 @@ struct mounts {
     bool here, elsewhere, others;
 };
 struct mounts find_mounts(pid_t pid, dev_t device, const char *path);
+// Whether the kernel tells that it has a connection of this number.
+bool is_connected(dev_t device);
 // Whether the connection that was mounted under this number is in use, perhaps by processes that
 // can't be seen.
 bool connection_lives(dev_t device, struct holders *holders);

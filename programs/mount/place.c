@@ -276,8 +276,8 @@ static dev_t open_folder(struct place *place, const char *path)
 // mount whose carrier is gone.
 enum earlier { NONE, MOUNTED, SERVING, OPEN };
 
-// Looks for a mount at the folder. One whose carrier was killed is taken away if nobody is left in it. If that came before it wrote
-// its record, or if this is a copy of its mount, there is no record, and only a lookup tells.
+// Looks for a mount at the folder. One whose carrier was killed is no hindrance if nobody is left in it: `place_clear` takes it away. If
+// that came before it wrote its record, or if this is a copy of its mount, there is no record, and only a lookup tells.
 static enum earlier at_folder(struct place *place, const struct options *options, enum record record, struct holders *holders)
 {
     dev_t device = open_folder(place, options->folder);
@@ -292,13 +292,8 @@ static enum earlier at_folder(struct place *place, const struct options *options
     if (record == RECORD_TAKEN || (record_read() != device && !is_dead(place)))
         return MOUNTED;
     find_holders(device, holders);
-    if (holders->count)
-        return OPEN;
-    if (unmount(place->path, place->is_root, false))
-        return at_folder(place, options, record, holders);
-    if (errno != EBUSY)
-        fail("cannot take the dead mount at %s away", place->path);
-    return OPEN;
+    place->dead = device;
+    return holders->count ? OPEN : NONE;
 }
 
 static bool has_earlier_mount(struct holders *holders)
@@ -321,17 +316,39 @@ static bool take_folder(struct place *place)
     return !flock(place->folder, LOCK_EX | LOCK_NB) || errno != EWOULDBLOCK;
 }
 
-// Takes the record and the folder, if no earlier mount is in the way.
+// Takes the record and the folder, if no earlier mount is in the way. A dead one stays above the folder.
 static enum earlier find_earlier(struct place *place, const struct options *options, struct holders *holders)
 {
+    place->dead = 0;
     open_folder(place, options->folder);
     enum earlier found = at_folder(place, options, record_take(place->path), holders);
-    if (found == NONE && !take_folder(place))
+    if (found == NONE && !place->dead && !take_folder(place))
         found = SERVING;
     if (found == NONE && has_earlier_mount(holders))
         found = OPEN;
     if (found != NONE)
         record_release();
+    return found;
+}
+
+// Takes dead mounts away, and then the folder. The record is taken. What has no holder may keep a mount busy: files under way in a socket.
+static enum earlier take_dead_away(struct place *place, const struct options *options, struct holders *holders)
+{
+    enum earlier found;
+    do {
+        place->dead = 0;
+        found = at_folder(place, options, RECORD_FREE, holders);
+        if (found == NONE && place->dead && !unmount(place->path, place->is_root, false)) {
+            if (errno != EBUSY)
+                fail("cannot take the dead mount at %s away", place->path);
+            return OPEN;
+        }
+    } while (found == NONE && place->dead);
+    if (found == NONE && !take_folder(place))
+        found = SERVING;
+    // To look for holders once more takes long.
+    if (found == NONE && is_connected(record_read()) && has_earlier_mount(holders))
+        found = OPEN;
     return found;
 }
 
@@ -383,13 +400,22 @@ static void refuse_all_inside(const struct place *place, const struct options *o
             refuse_inside(place, paths[at]);
 }
 
-void place_open(struct place *place, const struct options *options, bool (*stops)(void))
+static void refuse_folder(const struct place *place, const struct options *options)
+{
+    refuse_all_inside(place, options);
+    if (!options->nonempty)
+        refuse_nonempty(place);
+}
+
+typedef enum earlier look(struct place *place, const struct options *options, struct holders *holders);
+
+// Waits until nothing is in the way.
+static void wait_for(look *look, struct place *place, const struct options *options, bool (*stops)(void))
 {
     enum earlier found, before = NONE;
     double begun = seconds(), since = begun;
     bool said = false;
-    *place = (struct place){.folder = -1, .is_root = !geteuid()};
-    for (struct holders holders = {0}; (found = find_earlier(place, options, &holders)) != NONE; holders.count = 0) {
+    for (struct holders holders = {0}; (found = look(place, options, &holders)) != NONE; holders.count = 0) {
         // One that is mounted may be about to end. It may also be dead, and another carrier looks at it for now.
         if (found != before)
             since = seconds();
@@ -407,7 +433,20 @@ void place_open(struct place *place, const struct options *options, bool (*stops
             fail("ended before anything was mounted");
         usleep(STEP);
     }
-    refuse_all_inside(place, options);
-    if (!options->nonempty)
-        refuse_nonempty(place);
+}
+
+void place_open(struct place *place, const struct options *options, bool (*stops)(void))
+{
+    *place = (struct place){.folder = -1, .is_root = !geteuid()};
+    wait_for(find_earlier, place, options, stops);
+    if (!place->dead)
+        refuse_folder(place, options);
+}
+
+void place_clear(struct place *place, const struct options *options, bool (*stops)(void))
+{
+    if (!place->dead)
+        return;
+    wait_for(take_dead_away, place, options, stops);
+    refuse_folder(place, options);
 }

@@ -400,6 +400,26 @@ def try_the_carrier_is_killed_without_open_files():
     mounts_again(mount.folder)
 
 
+def try_a_dead_mount_stays_until_the_next_one_is_made():
+    """Nobody gets into the folder below while the next server starts, nor if it fails."""
+    mount, slow = Mount(), f"{tempfile.mkdtemp(dir=WORK)}/slow"
+    mount.end(mount.running.kill)
+    with open(slow, "w", encoding="ascii") as it:
+        it.write(f'#!/bin/sh\nuntil [ -e {slow}.go ]; do sleep 0.1; done\nexec {os.environ["LOCKD"]} "$@"\n')
+    os.chmod(slow, 0o700)
+    contains(refusal(folder=mount.folder, LOCKD="/bin/false"), "before it listened")
+    lock_fails(mount.folder)
+    again = subprocess.Popen([PROGRAM, "--trace", "none", mount.folder], stdout=subprocess.PIPE, stderr=subprocess.DEVNULL, text=True,
+                             env={**os.environ, "TMPDIR": WORK, "LOCKD": slow})
+    until(lambda: list(children_of(again.pid)))
+    time.sleep(0.2)
+    lock_fails(mount.folder)
+    open(f"{slow}.go", "x").close()
+    same((again.stdout.readline(), os.listdir(mount.folder)), (f"mounted at {mount.folder}\n", []))
+    again.terminate()
+    same((again.wait(PATIENCE), mount.is_mounted(), os.listdir(mount.folder)), (0, False, []))
+
+
 def try_an_abort_is_no_unmounting():
     for how in [abort] * can_abort() + [lambda mount: subprocess.run(["umount", "-f", mount.folder], timeout=PATIENCE, stderr=subprocess.DEVNULL)]:
         mount = Mount()
