@@ -197,6 +197,17 @@ static void begin(void)
 
 // ---- While it runs ----
 
+// Says once that the trace's file isn't there any more, or lacks what it had.
+static void miss_trace(void)
+{
+    static bool said;
+    if (said || server_has_its_trace(&mount.server))
+        return;
+    said = true;
+    say("the trace %s was removed, replaced or cut%s", mount.server.trace,
+        mount.options.resume ? ": if the server ends, no other one goes on, and locks are lost" : "");
+}
+
 // Says once that orders were answered for a while and the trace's file didn't grow.
 static void watch_trace(void)
 {
@@ -207,8 +218,11 @@ static void watch_trace(void)
     static bool said;
     struct counts counts;
     struct stat trace;
+    if (!mount.server.trace[0])
+        return;
     server_look(&mount.server);
-    if (!mount.server.trace[0] || stat(mount.server.trace, &trace))
+    miss_trace();
+    if (stat(mount.server.trace, &trace))
         return;
     carrier_counts(&counts);
     bool stands = before[0].lines > before[1].lines && before[1].size == trace.st_size && before[1].lines;

@@ -81,6 +81,8 @@ struct server {
 void server_start(struct server *server, const struct options *options, bool (*stops)(void));
 // Sees how many bytes its trace has: with fewer no other server goes on.
 void server_look(struct server *server);
+// Whether the file of its trace is there, with all that it was seen to have.
+bool server_has_its_trace(const struct server *server);
 // Starts another one when one has ended, to go on with its trace, and connects to it. Gives the
 // socket, or -1: a line said why, or `stops` said to give up.
 int server_restart(struct server *server, const struct options *options, bool (*stops)(void));

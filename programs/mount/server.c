@@ -225,15 +225,10 @@ void server_look(struct server *server)
         server->seen = at;
 }
 
-// Whether the file of its trace is there, with all that it was seen to have. If it isn't, says so.
-static bool has_its_trace(const struct server *server)
+bool server_has_its_trace(const struct server *server)
 {
     struct stat at;
-    if (!stat(server->trace, &at) && at.st_dev == server->seen.st_dev && at.st_ino == server->seen.st_ino && at.st_size >= server->seen.st_size)
-        return true;
-    say_end(server, "");
-    say("%s was removed, replaced or cut: another server wouldn't know all locks", server->trace);
-    return false;
+    return !stat(server->trace, &at) && at.st_dev == server->seen.st_dev && at.st_ino == server->seen.st_ino && at.st_size >= server->seen.st_size;
 }
 
 void server_start(struct server *server, const struct options *options, bool (*stops)(void))
@@ -334,8 +329,11 @@ static bool comes_again(const struct server *server, const struct options *optio
 // One that is killed before it listens comes again, too.
 static enum begun begin_again(struct server *server, const struct options *options, bool (*stops)(void))
 {
-    if (!has_its_trace(server))
+    if (!server_has_its_trace(server)) {
+        say_end(server, "");
+        say("%s was removed, replaced or cut: another server wouldn't know all locks", server->trace);
         return NOT_TRIED;
+    }
     while (comes_again(server, options)) {
         enum begun begun = begin(server, options, stops, FOR_EVER);
         if (begun != ENDED || WIFEXITED(server->status))

@@ -446,6 +446,24 @@ def try_a_file_that_is_gone_or_cut():
         lost(mount, one, two, status, f"{mount.file} was removed, replaced or cut: another server wouldn't know all locks")
 
 
+def try_a_file_that_is_gone_or_cut_is_told_within_seconds():
+    """While the server runs, and once. That of `--trace` is, too."""
+    plain = f"{tempfile.mkdtemp(dir=WORK)}/trace"
+    mounts = [(it, it.file) for it in (Resumed(), Resumed())] + [(Mount("--trace", plain), plain)]
+    for mount, _ in mounts:
+        shell(mount, "flock held echo in", "in")
+    # A mount sees how long it is every three seconds.
+    time.sleep(7)
+    for (_, file), spoil in zip(mounts, (os.remove, lambda it: os.truncate(it, 9), os.remove)):
+        spoil(file)
+    for mount, _ in mounts:
+        until(lambda: "was removed, replaced or cut" in mount.output())
+        shell(mount, "flock held echo in", "in")
+    time.sleep(4)
+    for mount, file in mounts:
+        same((mount.output().count(f"the trace {file} was removed"), mount.end()[0]), (1, 3))
+
+
 def try_a_program_that_is_gone():
     gate = Gate()
     mount = Resumed(**gate.words)
