@@ -102,7 +102,7 @@ def try_what_readme_says():
 def try_what_mount_refuses():
     os.makedirs(f"{ROOT}/srv/locks/file")
     for option, status, said in [("ro", 1, "no option ro"), ("nothing=1", 1, "no option nothing=1"), ("fair=1", 1, "fair takes no value"),
-                                 ("mode", 1, "mode takes a value"), ("mode=9", 32, "nothing is mounted"), ("rw", 32, "isn't empty"),
+                                 ("mode", 1, "mode takes a value"), ("resume=", 1, "resume takes a value"), ("mode=9", 32, "nothing is mounted"), ("rw", 32, "isn't empty"),
                                  ("trace-full=refuse", 32, "refuse isn't for a mount")]:
         ran = inside("mount", "-t", "fuse.lockd", "-o", option, "none", "/srv/locks")
         same((ran.returncode, said in ran.stderr, is_mounted("/srv/locks")), (status, True, False))
@@ -284,10 +284,10 @@ def uninstalls_nothing(prefix, *said):
 
 
 def try_an_installation():
-    """Twice in each place. What is in use isn't removed."""
+    """Twice in each place, by two spellings of it. What is in use isn't removed."""
     os.mkdir(f"{ROOT}/srv/locks")
     for prefix in "/usr/local", "/srv/of/ours":
-        install(prefix)
+        install(f"/{prefix.replace('/', '//')}/")
         put(f"{prefix}/share/lockd/of_an_older_one", "")
         with open(f"{ROOT}{prefix}/share/lockd/installed", "a", encoding="utf-8") as file:
             file.write(f"{hashlib.sha256().hexdigest()} {prefix}/share/lockd/of_an_older_one\n")
@@ -341,6 +341,12 @@ def try_an_installation_touches_no_file_of_others():
     same(sorted(text_of(f"{ROOT}{LIST}").splitlines()), sorted([line, *folders]))
     put(PAGE, before)
     install("--uninstall", "/usr/local")
+    is_as_before()
+
+
+def try_prefixes_that_are_none():
+    for prefix in "usr/local", "/usr/../local", "/usr/./local", "/usr/my local":
+        same("PREFIX" in install(prefix, status=2), True)
     is_as_before()
 
 
