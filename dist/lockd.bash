@@ -1,7 +1,19 @@
 # Completion of `lockd`, `lockd_mount`, `lockd_locks` and `lockd_report` for bash: `. dist/lockd.bash`, or put it
 # into /etc/bash_completion.d. tests/commands/man.sh compares its words with what `lockd --help` says.
+
+# Sets `word` to what is to be completed, and `before` to the word before it. For bash the = of --OPTION=VALUE is a word, too.
+_lockd_words() {
+    word=${COMP_WORDS[COMP_CWORD]} before=${COMP_WORDS[COMP_CWORD - 1]}
+    if [ "$word" = = ]; then
+        word=
+    elif [ "$before" = = ] && [ "$COMP_CWORD" -gt 2 ]; then
+        before=${COMP_WORDS[COMP_CWORD - 2]}
+    fi
+}
+
 _lockd() {
-    local word=${COMP_WORDS[COMP_CWORD]} before=${COMP_WORDS[COMP_CWORD - 1]} command=${COMP_WORDS[1]}
+    local word before command=${COMP_WORDS[1]}
+    _lockd_words
     local words= rules='--fair --runs --parked --files --open --verbose'
     if [ "$COMP_CWORD" -eq 1 ]; then
         words="script check locks bytes serve drive help $rules --help --version"
@@ -21,6 +33,11 @@ _lockd() {
         words='none'
     elif [ "$before" = --resume ]; then
         words=
+    elif [ "$before" = --file ] || [ "$before" = --at ]; then
+        # A name in the trace, or a number of its lines, and no file here.
+        COMPREPLY=()
+        compopt +o default 2> /dev/null
+        return
     else
         case $command in
             help) words='script check locks bytes serve drive' ;;
@@ -39,7 +56,8 @@ _lockd() {
 complete -o default -F _lockd lockd
 
 _lockd_mount() {
-    local word=${COMP_WORDS[COMP_CWORD]} before=${COMP_WORDS[COMP_CWORD - 1]}
+    local word before
+    _lockd_words
     local words='--workers --trace --resume --trace-full --times --fair --runs --parked --files --open --no-check --allow-other --mode --uid --gid --discard-writes --source --nonempty --grace --count --help --version'
     case $before in
         --workers) mapfile -t COMPREPLY < <(compgen -W "$(seq 16)" -- "$word") ;;
@@ -63,7 +81,8 @@ _lockd_mount() {
 complete -F _lockd_mount lockd_mount
 
 _lockd_locks() {
-    local word=${COMP_WORDS[COMP_CWORD]} before=${COMP_WORDS[COMP_CWORD - 1]}
+    local word before
+    _lockd_words
     case $before:$word in
         # It is the name of a file in a folder that may not be there yet.
         --file:*) COMPREPLY=() ;;
@@ -74,7 +93,8 @@ _lockd_locks() {
 complete -o filenames -F _lockd_locks lockd_locks
 
 _lockd_report() {
-    local word=${COMP_WORDS[COMP_CWORD]} before=${COMP_WORDS[COMP_CWORD - 1]}
+    local word before
+    _lockd_words
     case $before:$word in
         -o:* | --times:*) mapfile -t COMPREPLY < <(compgen -f -- "$word") ;;
         *:-*) mapfile -t COMPREPLY < <(compgen -W '-o --times --help' -- "$word") ;;

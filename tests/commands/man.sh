@@ -1,6 +1,7 @@
 #!/bin/sh
 # Sees that each command and each option that `lockd --help` and `lockd COMMAND --help` name stands in dist/man/lockd.1 and in
 # dist/lockd.bash, that these name no other long option of `lockd`, and that the man page's SYNOPSIS has the options of each command.
+# Where bash is there, completes some words.
 # Prints each that doesn't, and then has status 1.
 # It takes the built program, or the one that LOCKD names. Where that isn't there it says so, with status 77.
 set -eu
@@ -55,4 +56,21 @@ for command in $commands; do
         failed=1
     }
 done
+# completes WANTED WORD ..: the last word is completed. Bash takes the = of --OPTION=VALUE for a word.
+completes() {
+    wanted=$1
+    shift
+    found=$(bash -c '. dist/lockd.bash; COMP_WORDS=("$@") COMP_CWORD=$(($# - 1)); "_$1"; echo "${COMPREPLY[*]}"' bash "$@")
+    [ "$found" = "$wanted" ] || { echo "$* is completed by: $found" && failed=1; }
+}
+if command -v bash > /dev/null; then
+    completes 'script serve' lockd s
+    completes "$(seq 16 | tr '\n' ' ' | sed 's/ $//')" lockd serve --workers =
+    completes '2' lockd serve --workers = 2
+    completes '2' lockd serve --workers 2
+    completes 'wait' lockd_mount --trace-full = w
+    completes '' lockd locks --file ''
+    completes '' lockd locks --file = ''
+    completes '' lockd_locks --file = ''
+fi
 exit "$failed"
