@@ -62,16 +62,20 @@ def try_four_open_files():
     assert not os.path.exists(server.path)
 
 
-def starved(program, threads):
-    """What a server with 4 workers says to its client where its user may have so many threads in all."""
-    def alone():
+def alone(threads):
+    """A user who may have so many threads in all."""
+    def becomes():
         if os.getuid() == 0:
             os.setgroups([])
             os.setgid(NOBODY)
             os.setuid(NOBODY)
         resource.setrlimit(resource.RLIMIT_NPROC, (threads, threads))
 
-    server = Server(workers=4, before=alone, program=program)
+    return becomes
+
+
+def starved(server):
+    """What a server says to its client that has no threads for its workers."""
     with server.connect() as client:
         try:
             client.sendall(INIT + CREATE)
@@ -82,13 +86,20 @@ def starved(program, threads):
 
 
 def try_no_threads():
-    """None can be started, or some of the four. Nothing is read, nothing is printed, and those that were started end."""
+    """None can be started, or some of the four. Nothing is read, nothing is printed, and those that were started end. The trace's file goes, and none that
+    has taken its place."""
     with tempfile.TemporaryDirectory(prefix="try-lockd-") as folder:
         os.chmod(folder, 0o755)
         program = shutil.copy(PROGRAM, folder)
         os.chmod(program, 0o755)
         for threads in 1, 2, 3, 4:
-            assert starved(program, threads) == (b"", b"", "no memory\n", 2), threads
+            for options, left in ((), []), (("--trace", "{file}"), []), (("--trace", "{file}"), ["trace"]):
+                server = Server(*options, workers=4, before=alone(threads), program=program)
+                server.listens()
+                if left:
+                    os.replace(shutil.copy(program, f"{server.file}.other"), server.file)
+                assert starved(server) == (b"", b"", "no memory\n", 2), threads
+                assert os.listdir(server.folder.name) == left, (threads, options)
 
 
 def at_a_path(length):

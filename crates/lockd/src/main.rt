@@ -6,7 +6,8 @@
 //!   or workers, another path, or another trace than `opened` made;
 //! - an `opened` or a `resume` whose file is at another path, or that is always refused; a `made` that writes over a
 //!   file that is there, or one of them that doesn't append;
-//! - a `remove_unused` that takes away the trace's file of a session that was served, or leaves one of none;
+//! - a `remove_unused` that takes away the trace's file of a session that was served, or another's file, or leaves one
+//!   of none;
 //! - any line of `--verbose`, and one without that option;
 //! - a `main` that prints no refusal, or ends with another status;
 //! - a `hold_closed_streams` that holds none.

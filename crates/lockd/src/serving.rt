@@ -66,6 +66,7 @@ fn serve_opened<T: Threads + Wait + Net + Files + Sync>(
 ) -> Status
     requires workers { (0 < options.workers) × (options.workers ≤ 16) }
 {
+    let made = kept_open(&options.trace);
     let mut output = Noting::new(io::writer(rt));
     let mut faults = rt.stderr();
     let path = Path::new(socket);
@@ -79,7 +80,7 @@ fn serve_opened<T: Threads + Wait + Net + Files + Sync>(
         words,
     );
     words.printed(status, output.failed());
-    remove_unused(rt, trace, status);
+    remove_unused(rt, trace, &made, status);
     end_traced(rt, trace, written, status, &mut faults, words)
 }
 
@@ -222,11 +223,22 @@ fn end_traced<F: Write>(
     }
 }
 
-// Takes the trace's file away if no session was served.
-fn remove_unused(rt: &HostRuntime, trace: &Trace, status: Status) {
+// The trace's file, if it has one, open once more. So no other file gets its number, also once it was closed.
+fn kept_open(trace: &TraceTo<Written<'_>>) -> Option<File> {
     match trace {
-        Trace::File(file, _) if is_unused(status) => {
-            let _ = fs::remove_file(rt, Path::new(file.as_str()));
+        TraceTo::Writer(written) => written.file().try_clone().ok(),
+        TraceTo::Output | TraceTo::Nowhere => None,
+    }
+}
+
+// Takes the trace's file away if no session was served, unless another file is at its path by then.
+fn remove_unused(rt: &HostRuntime, trace: &Trace, made: &Option<File>, status: Status) {
+    match (trace, made) {
+        (Trace::File(file, _), Some(made)) if is_unused(status) => {
+            let path = Path::new(file.as_str());
+            if is_at(rt, path, made) {
+                let _ = fs::remove_file(rt, path);
+            }
         }
         _ => {}
     }
