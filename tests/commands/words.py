@@ -323,18 +323,25 @@ def try_why_no_trace_can_be():
 
 
 def try_why_no_trace_can_be_cut_off():
-    """Root may forbid all changes of a file but what is written behind its end."""
+    """Root may forbid all changes of a file but what is written behind its end. One that ends with its last line isn't cut off."""
     with tempfile.NamedTemporaryFile(prefix="try-lockd-") as file:
-        file.write(b"ask")
-        file.flush()
-        if subprocess.run(["chattr", "+a", file.name], capture_output=True, check=False).returncode:
+        def appended_to(text):
+            file.write(text)
+            file.flush()
+            if subprocess.run(["chattr", "+a", file.name], capture_output=True, check=False).returncode:
+                return None
+            try:
+                return run("serve", NOWHERE, "--resume", file.name, "--verbose").stderr.decode()
+            finally:
+                subprocess.run(["chattr", "-a", file.name], check=True)
+
+        whole = appended_to(b"")
+        if whole is None:
             return "not tried: chattr isn't there, or can't do it"
-        try:
-            told = explained("serve", NOWHERE, "--resume", file.name)
-        finally:
-            subprocess.run(["chattr", "-a", file.name], check=True)
+        assert whole.startswith(f"going on behind the lines of {file.name}\ncannot listen\n"), whole
+        told = appended_to(b"ask")
         why = "what follows its last newline can't be cut off: Operation not permitted (os error 1)"
-        assert told == f"{file.name}: {why}\ngo on behind a copy of it\n", told
+        assert told == f"cannot trace\n{file.name}: {why}\ngo on behind a copy of it\n", told
 
 
 NO_LOCKS = """

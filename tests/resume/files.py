@@ -65,6 +65,16 @@ def refuses(traced, told, *options):
     assert server.traced() == traced and not os.path.exists(server.path)
 
 
+def try_a_file_with_no_newline():
+    """It is cut off if an order may begin so, as of a server that was killed in its first write. Else it may be no trace, and stays."""
+    for cut in b"a", b"ask", b"ask ", b"ask 0 1 1", b"":
+        server = resuming(traced=cut)
+        Client(server).meet()
+        assert server.traced() == b"", cut
+    for text in b"notes", b"b", b"asks", b" ask 0", b"tell 1 ok", b"\0", b"x" * 100_000:
+        refuses(text, "bad line 1\n")
+
+
 def try_bad_lines_in_a_resumed_file():
     """The first is told, also behind a line that differs, and whatever follows it."""
     differs = LINES.replace(b"tell 3 ok", b"tell 3 err 11")

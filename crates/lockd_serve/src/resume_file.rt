@@ -1,6 +1,6 @@
 //! `lockd serve --resume`: a session behind the lines of a trace's file.
 
-ghost use Rattle.std.specs.Prelude.{◌≡◌, ◌⊎◌, ◌&&◌, ◌++◌, ℕ, [], List, Option, IfOk, IfErr};
+ghost use Rattle.std.specs.Prelude.{◌≡◌, ◌⊎◌, ◌&&◌, ◌++◌, ℕ, [], List, Option, Some, IfOk, IfErr};
 ghost use Rattle.std.specs.Path.{path_bytes};
 ghost use Rattle.fl_desk.specs.Kept.{IsKept};
 ghost use Rattle.fl_desk.specs.Verdicts.{IsBeginning};
@@ -8,7 +8,7 @@ ghost use Rattle.fl_judge.specs.First.{AreWholeLines, IsSoOfAll};
 ghost use Rattle.fl_judge.specs.Present.{told_lines};
 ghost use Rattle.fl_transport.specs.declared.fault.Fault.{Fault as SessionFault};
 ghost use Rattle.lockd_serve.specs.Behind.{EndsBehind, FileSays, ServesBehind, ServesNobodyBehind};
-ghost use Rattle.lockd_serve.specs.Ending.{Ending};
+ghost use Rattle.lockd_serve.specs.Ending.{Ending, Ends};
 ghost use Rattle.lockd_serve.specs.Inside.{DiffersBy, told_of_reading};
 ghost use Rattle.lockd_serve.specs.Resumed.{lines_at};
 
@@ -25,10 +25,14 @@ use lockd_streams::{
 };
 use std::alloc::Global;
 use std::fs::{File, Files, TryLockError};
+use std::io;
 use std::io::{Read, Write};
 use std::net::Net;
 use std::path::Path;
 use std::time::Clock;
+
+// How a trace begins.
+const ASK: &[u8] = b"ask ";
 
 /// `lockd serve --resume`: goes on behind the lines of a trace's file, under these rules, with one worker. It listens
 /// as `serve_on` does, but a socket's file at the path is replaced if nobody listens at it. Nothing was read of the
@@ -38,7 +42,8 @@ use std::time::Clock;
 /// What follows the file's last newline is cut off, and the replies that its last order lacks are written to it. Then
 /// the lines of each order are written before any of its replies leaves. While a write fails, `when` says what happens,
 /// and `notices` gets a line of it. If no legal history begins with the file's lines, it stays as it is, `faults` gets
-/// `bad line` or `differs` with the line's number, and nobody is served. A fault of the session is one line on
+/// `bad line` or `differs` with the line's number, and nobody is served. A text with no newline is a bad line, too, if
+/// it isn't cut off within a line of an order: the file may be no trace. A fault of the session is one line on
 /// `faults`, and behind it `trace failed` if the file lacks lines, or is gone. The observer is told what the server
 /// does, and after `cannot listen` and `cannot trace` why it serves nobody.
 pub fn resume_on<R: Net + Files + Clock, F: Write, N: Write + Drop, O: Observer>(
@@ -71,13 +76,13 @@ pub fn resume_on<R: Net + Files + Clock, F: Write, N: Write + Drop, O: Observer>
     let mut details = Details::new();
     let point = match resumed_from(alloc, rules, &mut file, &mut details) {
         Ok(point) => point,
-        Err(fault) => {
-            let status = end(faults, Err(fault));
-            observer.unresumed(alloc, status, &details);
-            return status;
-        }
+        Err(fault) => return end_unresumed(alloc, faults, observer, fault, &details),
     };
-    if let Err(why) = file.set_len(point.bytes) {
+    let rest = details.bad.text();
+    if point.bytes == 0 && !may_begin_a_trace(rest) {
+        return end_unresumed(alloc, faults, observer, CommandFault::BadLine(1), &details);
+    }
+    if let Err(why) = cut_off(&file, point.bytes, rest) {
         return end_unopened(faults, observer, Untraced::Uncut(why));
     }
     observer.resumed();
@@ -119,6 +124,38 @@ fn is_regular(file: &File) -> bool {
         Ok(found) => found.is_file(),
         Err(_) => false,
     }
+}
+
+// Ends a server that doesn't go on from its file: tells why, and the observer more of it.
+fn end_unresumed<F: Write, O: Observer>(
+    alloc: Global,
+    faults: &mut F,
+    observer: &mut O,
+    fault: CommandFault,
+    details: &Details,
+) -> Status
+    ensures { Ends (Some fault) (record {
+      status = result;
+      told = F.contents faults.old;
+      told_now = F.contents faults.new;
+    }) }
+{
+    let status = end(faults, Err(fault));
+    observer.unresumed(alloc, status, details);
+    status
+}
+
+// Whether a text, or this front of it, may be that of a trace which is cut off within its first line.
+fn may_begin_a_trace(text: &[u8]) -> bool {
+    text.starts_with(ASK) || ASK.starts_with(text)
+}
+
+// Cuts a file off behind so many bytes, if there is a rest. So one that may only grow is taken, if its lines are whole.
+fn cut_off(file: &File, bytes: u64, rest: &[u8]) -> io::Result<()> {
+    if rest.is_empty() {
+        return Ok(());
+    }
+    file.set_len(bytes)
 }
 
 // Ends a server with this status, whose trace's file was whole or not. If it was whole, and isn't there any more, that
