@@ -1,8 +1,9 @@
 -- A session that was cut off inside a batch.
-use Rattle.std.proofs.Common.{◌≡◌, ℕ, zero, suc, ◌+◌, ◌≤◌, Bool, true, false, List, [], ◌∷◌, ◌++◌, length, drop, take, map, replicate, Option, None, Some}
+use Rattle.std.proofs.Common.{◌≡◌, ℕ, zero, suc, ◌+◌, ◌≤◌, Bool, true, false, List, [], ◌∷◌, ◌++◌, length, drop, take, map, Option, None, Some}
 use Rattle.std.proofs.Common.{refl, sym, ap, ◌∙◌, append_assoc, append-nil, arith}
 use Rattle.std.specs.Prelude.{if◌then◌else◌}
 use Rattle.std.specs.List.{AllByRecursion}
+use Rattle.std.proofs.Math.Seq.{drop-nil}
 use Rattle.std.proofs.lemmas.Grind.{fold-append}
 use Rattle.fl_core.specs.Effects.{at_once, made, recorded, replied}
 use Rattle.fl_core.specs.Replies.{first_told}
@@ -24,7 +25,7 @@ use Rattle.fl_session.proofs.OnceLemmas.{GoAlike, again_alike, agrees_on, all_ne
 use Rattle.fl_session.proofs.RecallLemmas.{asks, asks_recalled}
 use Rattle.fl_session.proofs.RulesLemmas.{by_message}
 use Rattle.fl_session.specs.Again.{incoming_under, unmarked}
-use Rattle.fl_session.specs.AsOne.{AreAsOne, IsCutInside, part_of, replies_again}
+use Rattle.fl_session.specs.AsOne.{AreAsOne, IsCutInside, NoneRefused, part_of, replies_again}
 use Rattle.fl_session.specs.Once.{AllComeAgain, AreNew, resumed, under_way}
 use Rattle.fl_session.specs.Session.{Came, Session, opening_session, session_from, session_of, with_again, with_either, with_incoming}
 use Rattle.fl_session.specs.Session.{with_message, with_order, with_orders, with_recalled}
@@ -103,7 +104,7 @@ session_sound s (c ∷ came) sound = session_sound (with_message s c) came (mess
 -- ---- a FORGET has no reply, and parks no request
 
 -- it is a FORGET of this unique
-abbrev IsForget : ℕ → Order → Type 0
+abbrev pub IsForget : ℕ → Order → Type 0
 IsForget unique order = (n : ℕ) × (order ≡ record order { unique = unique; op = Forget n })
 
 quiet_forget : AreKnown → (p : Snapshot) (order : Order) (unique n : ℕ) → is_parked unique p.view.parked ≡ false
@@ -122,10 +123,10 @@ forget_free v order unique n free = rw free free
 -- ---- the first orders of a batch
 
 -- FORGETs of a unique were taken: each has a line and no reply, and no request of the unique is parked
-record HasTaken (unique : ℕ) (s : Session) (orders : List Order) (t : Session) : Type 0 where
-  rules : t.rules ≡ s.rules
-  lines : t.lines ≡ s.lines ++ asks orders
-  free : is_parked unique (state_after t.rules t.lines).view.parked ≡ false
+pub record HasTaken (unique : ℕ) (s : Session) (orders : List Order) (t : Session) : Type 0 where
+  pub rules : t.rules ≡ s.rules
+  pub lines : t.lines ≡ s.lines ++ asks orders
+  pub free : is_parked unique (state_after t.rules t.lines).view.parked ≡ false
 
 one_taken : AreKnown → (unique : ℕ) (s : Session) (order : Order) → IsSound s
     → is_parked unique (state_after s.rules s.lines).view.parked ≡ false → IsForget unique order
@@ -145,7 +146,7 @@ one_taken laws unique s order sound free is =
           ∙ forget_free (state_after s.rules s.lines).view order unique is.0 free;
     }
 
-all_taken : AreKnown → (unique : ℕ) (s : Session) (orders : List Order) → IsSound s
+pub all_taken : AreKnown → (unique : ℕ) (s : Session) (orders : List Order) → IsSound s
     → is_parked unique (state_after s.rules s.lines).view.parked ≡ false → AllByRecursion (IsForget unique) orders
     → HasTaken unique s orders (with_orders s orders [])
 all_taken laws unique s [] sound free all = record { rules = refl; lines = sym (append-nil s.lines); free = free }
@@ -165,20 +166,29 @@ forgets_taken bytes zero pairs = tt
 forgets_taken bytes (suc n) [] = tt
 forgets_taken bytes (suc n) (i ∷ pairs) = ((_, refl), forgets_taken bytes n pairs)
 
-named : (unique : ℕ) (orders : List Order) → AllByRecursion (IsForget unique) orders
+pub named : (unique : ℕ) (orders : List Order) → AllByRecursion (IsForget unique) orders
     → AllByRecursion (λ (o : Order). o.unique ≡ unique) orders
 named unique [] all = tt
 named unique (o ∷ orders) all = (ap (λ x. x.unique) all.0.1, named unique orders all.1)
 
 -- ---- the orders that are left
 
-split : (s : Session) (orders : List Order) (count : ℕ) (refused : List Bool)
-    → with_orders s orders (replicate count false ++ refused)
-    ≡ with_orders (with_orders s (take count orders) []) (drop count orders) refused
-split s [] zero refused = refl
-split s [] (suc count) refused = refl
-split s (o ∷ orders) zero refused = refl
-split s (o ∷ orders) (suc count) refused = split (with_order s false o) orders count refused
+nothing_refused : (count : ℕ) → NoneRefused (take count [])
+nothing_refused zero = tt
+nothing_refused (suc count) = tt
+
+split : (s : Session) (orders : List Order) (count : ℕ) (refused : List Bool) → NoneRefused (take count refused)
+    → with_orders s orders refused
+    ≡ with_orders (with_orders s (take count orders) []) (drop count orders) (drop count refused)
+split s [] zero refused none = refl
+split s [] (suc count) refused none = refl
+split s (o ∷ orders) zero refused none = refl
+split s (o ∷ orders) (suc count) [] none =
+    let now : Session = with_order s false o in
+    split now orders count [] (nothing_refused count)
+    ∙ ap (with_orders (with_orders now (take count orders) []) (drop count orders)) (drop-nil count)
+split s (o ∷ orders) (suc count) (true ∷ refused) none = absurd (cc none.0)
+split s (o ∷ orders) (suc count) (false ∷ refused) none = split (with_order s false o) orders count refused none.1
 
 drop_taken : (orders : List Order) (count : ℕ) → drop (length (take count orders)) orders ≡ drop count orders
 drop_taken [] zero = refl
@@ -242,8 +252,8 @@ batch_goes laws a b first now count c m far knows lacks sound cut g =
     ∙ ap (λ os. with_orders left os m.refused) (drop_taken orders count))
     (plain_met first c lacks far
     ∙ ap (with_incoming right c.refused) it
-    ∙ ap (with_orders right orders) cut.refused
-    ∙ split right orders count m.refused
+    ∙ split right orders count c.refused cut.unrefused
+    ∙ ap (with_orders (with_orders right had []) (drop count orders)) (sym cut.refused)
     ∙ ap (λ t. with_orders t (drop count orders) m.refused) (orders_moved first (moved c.message) had []))
     (orders_go a b left (record part { handshake = moved c.message }) (drop count orders) m.refused
     (moved_alike a b now part (moved c.message) g))

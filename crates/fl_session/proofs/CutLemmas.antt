@@ -1,5 +1,5 @@
 -- The lines that a session leaves that was cut off.
-use Rattle.std.proofs.Common.{◌≡◌, ℕ, zero, suc, ◌<◌, Bool, true, false, List, [], ◌∷◌, ◌++◌, length, take, drop, map, replicate, Option, None, Some}
+use Rattle.std.proofs.Common.{◌≡◌, ℕ, zero, suc, ◌<◌, Bool, true, false, List, [], ◌∷◌, ◌++◌, length, take, drop, map, Option, None, Some}
 use Rattle.std.proofs.Common.{refl, sym, ap, subst, ◌∙◌, append_assoc, append-nil, arith, inl, inr}
 use Rattle.std.specs.Prelude.{◌⊎◌, if◌then◌else◌, Result, Ok, Err}
 use Rattle.std.proofs.lemmas.Grind.{fold-append}
@@ -25,7 +25,7 @@ use Rattle.fl_session.proofs.OnceLemmas.{moved, over_still, plain_met, resends_f
 use Rattle.fl_session.proofs.Prefixes.{of_another, of_itself}
 use Rattle.fl_session.proofs.RulesLemmas.{by_message, by_order, rules_from}
 use Rattle.fl_session.specs.Again.{incoming_under, unmarked}
-use Rattle.fl_session.specs.AsOne.{part_of}
+use Rattle.fl_session.specs.AsOne.{NoneRefused, part_of}
 use Rattle.fl_session.specs.CutOff.{AreOfPart, AreOfSession, AreTakenOf, cut_in, with_replies}
 use Rattle.fl_session.specs.Once.{under_way}
 use Rattle.fl_session.specs.Session.{Came, Session, opening_session, session_from, session_of, with_again, with_either, with_incoming}
@@ -425,14 +425,15 @@ cut_off laws rules first others lines missing front all legal =
     }
 
 -- none of so many orders was refused
-pub cut_unrefused : (s : Session) (batch : Came) (count : ℕ) (later : List Bool) → batch.refused ≡ replicate count false ++ later
+pub cut_unrefused : (s : Session) (batch : Came) (count : ℕ) → NoneRefused (take count batch.refused)
     → cut_in s batch count ≡ part_of s batch.message count
-cut_unrefused s batch count later e =
-    ap (with_orders s (take count (forgets_in batch.message))) e ∙ by s (forgets_in batch.message) count
+cut_unrefused s batch count none = by s (forgets_in batch.message) count batch.refused none
   where
-    by : (s : Session) (orders : List Order) (count : ℕ)
-        → with_orders s (take count orders) (replicate count false ++ later) ≡ with_orders s (take count orders) []
-    by s [] zero = refl
-    by s [] (suc count) = refl
-    by s (o ∷ orders) zero = refl
-    by s (o ∷ orders) (suc count) = by (with_order s false o) orders count
+    by : (s : Session) (orders : List Order) (count : ℕ) (refused : List Bool) → NoneRefused (take count refused)
+        → with_orders s (take count orders) refused ≡ with_orders s (take count orders) []
+    by s [] zero refused none = refl
+    by s [] (suc count) refused none = refl
+    by s (o ∷ orders) zero refused none = refl
+    by s (o ∷ orders) (suc count) [] none = refl
+    by s (o ∷ orders) (suc count) (true ∷ refused) none = absurd (cc none.0)
+    by s (o ∷ orders) (suc count) (false ∷ refused) none = by (with_order s false o) orders count refused none.1

@@ -3,9 +3,11 @@
 use Rattle.std.proofs.Common.{◌≡◌, ℕ, Bool, true, false, List, [], ◌∷◌, ◌++◌, drop, map, Option, None, Some}
 use Rattle.std.proofs.Common.{refl, sym, ap, ◌∙◌, append_assoc}
 use Rattle.std.specs.Prelude.{◌^◌, nat_le, if◌then◌else◌}
+use Rattle.std.proofs.lemmas.Grind.{fold-append}
 use Rattle.fl_core.specs.Step.{replies_in}
 use Rattle.fl_desk.specs.Replay.{state_after}
 use Rattle.fl_history.specs.Recent.{recalled, recent}
+use Rattle.fl_history.specs.declared.history.Line.{Line}
 use Rattle.fl_history.specs.declared.recent.Recalled.{Recalled}
 use Rattle.fl_history.specs.declared.recent.Recalled.TheVariants as recall
 use Rattle.fl_order.specs.OpKind.{kind_of_opcode}
@@ -13,12 +15,14 @@ use Rattle.fl_order.specs.Order.{kind_of}
 use Rattle.fl_order.specs.declared.kind.OpKind.TheVariants as kinds
 use Rattle.fl_order.specs.declared.order.Order.{Order}
 use Rattle.fl_session.proofs.LaterLemmas.{plain_is}
+use Rattle.fl_session.proofs.OnceLemmas.{agrees_on}
+use Rattle.fl_session.proofs.RulesLemmas.{by_message}
 use Rattle.fl_session.specs.Again.{incoming_under, unmarked}
 use Rattle.fl_session.specs.AsOne.{AllPlain}
 use Rattle.fl_session.specs.Once.{resumed, under_way}
 use Rattle.fl_session.specs.Session.{Came, Session, session_behind, session_from, session_of, with_again, with_either, with_incoming}
 use Rattle.fl_session.specs.Session.{opening_session, with_message, with_order, with_orders, with_recalled, with_response}
-use Rattle.fl_transport.specs.Handshake.{advanced, agrees, incoming_of, is_agreed, own_answer}
+use Rattle.fl_transport.specs.Handshake.{advanced, agrees, incoming_of, is_agreed, opening, own_answer}
 use Rattle.fl_transport.specs.Response.{bytes_of, lost}
 use Rattle.fl_transport.specs.declared.handshake.Incoming.{Incoming}
 use Rattle.fl_transport.specs.declared.handshake.Incoming.TheVariants as incoming
@@ -156,27 +160,84 @@ session_behind_replies a s (c ∷ came) =
 
 -- ---- the INIT of a session that goes on
 
-pub init_first : (first : Session) (init : Came) (came : List Came) → first.handshake ≡ under_way
-    → kind_of_opcode (opcode_of init.message) ≡ Some kinds.Init → is_agreed (init_step init.message) ≡ true
-    → AllPlain (init ∷ [])
-    → session_from (session_behind first.rules first.lines true) (init ∷ came)
-    ≡ record (session_from (resumed first) came) {
-      replies = init_spelling (unique_of init.message) (init_step init.message) ∷ (session_from (resumed first) came).replies;
-    }
-init_first first init came far kind agreed plain =
-    ap (λ t. session_from t came) here
-    ∙ session_behind_replies (init_spelling (unique_of init.message) (init_step init.message) ∷ []) (resumed first) came
+-- a session behind these lines that sent this, and in which no INIT is agreed
+abbrev waiting : Rules → List Line → Bool → List (List ℕ) → Session
+waiting rules base knows sent = record (session_behind rules base knows) { replies = sent }
+
+-- what the session itself answers to a message before an INIT is agreed
+abbrev answer_to : Came → List (List ℕ)
+answer_to c = bytes_of (own_answer c.message (kind_of_opcode (opcode_of c.message)))
+
+one_early : (rules : Rules) (base : List Line) (knows : Bool) (sent : List (List ℕ)) (c : Came)
+    → nat_le (2 ^ 63) (unique_of c.message) ≡ false → agrees c.message (kind_of_opcode (opcode_of c.message)) ≡ false
+    → with_message (waiting rules base knows sent) c ≡ waiting rules base knows (sent ++ answer_to c)
+one_early rules base knows sent c plain early =
+    plain_is (waiting rules base knows sent) c plain
+    ∙ ap (λ b. record (waiting rules base knows (sent ++ answer_to c)) { handshake = record { agreed = b; over = false } }) early
+
+agreed_on : (s : Session) (came : List Came) → s.handshake.agreed ≡ true → (session_from s came).handshake.agreed ≡ true
+agreed_on s [] e = e
+agreed_on s (c ∷ came) e = agreed_on (with_message s c) came (agrees_on s c e)
+
+-- until an INIT is agreed, it makes no difference behind which lines a session goes on
+all_early : (rules : Rules) (base : List Line) (knows : Bool) (sent : List (List ℕ)) (early : List Came) → AllPlain early
+    → (session_from (waiting rules [] false sent) early).handshake ≡ opening
+    → session_from (waiting rules base knows sent) early
+    ≡ waiting rules base knows (session_from (waiting rules [] false sent) early).replies
+all_early rules base knows sent [] plain end = refl
+all_early rules base knows sent (c ∷ early) plain end =
+    by (agrees c.message (kind_of_opcode (opcode_of c.message))) refl
+    (λ begins. all_early rules base knows (sent ++ answer_to c) early plain.1 begins)
   where
     start : Session
-    start = session_behind first.rules first.lines true
+    start = waiting rules [] false sent
+
+    more : Bool → List Line → Session
+    more knows base = waiting rules base knows (sent ++ answer_to c)
+
+    by : (b : Bool) → agrees c.message (kind_of_opcode (opcode_of c.message)) ≡ b
+        → ((session_from (more false []) early).handshake ≡ opening
+        → session_from (more knows base) early ≡ waiting rules base knows (session_from (more false []) early).replies)
+        → session_from (waiting rules base knows sent) (c ∷ early)
+        ≡ waiting rules base knows (session_from start (c ∷ early)).replies
+    by true e rest =
+        let first : (with_message start c).handshake.agreed ≡ true = ap (λ h. h.agreed) (by_message start c).handshake ∙ e in
+        let both : true ≡ false = sym (agreed_on (with_message start c) early first) ∙ ap (λ h. h.agreed) end in
+        absurd (cc both)
+    by false e rest =
+        let one = one_early rules [] false sent c plain.0 e in
+        ap (λ t. session_from t early) (one_early rules base knows sent c plain.0 e)
+        ∙ rest (ap (λ (t : Session). (session_from t early).handshake) (sym one) ∙ end)
+        ∙ ap (λ (t : Session). waiting rules base knows (session_from t early).replies) (sym one)
+
+pub init_first : (first : Session) (early : List Came) (init : Came) (came : List Came) → first.handshake ≡ under_way
+    → (session_of first.rules early).handshake ≡ opening → kind_of_opcode (opcode_of init.message) ≡ Some kinds.Init
+    → is_agreed (init_step init.message) ≡ true → AllPlain early → AllPlain (init ∷ [])
+    → session_from (session_behind first.rules first.lines true) (early ++ init ∷ came)
+    ≡ record (session_from (resumed first) came) {
+      replies = (session_of first.rules early).replies
+          ++ init_spelling (unique_of init.message) (init_step init.message) ∷ (session_from (resumed first) came).replies;
+    }
+init_first first early init came far begins kind agreed before plain =
+    fold-append with_message (waiting first.rules first.lines true []) early (init ∷ came)
+    ∙ ap (λ t. session_from (with_message t init) came) (all_early first.rules first.lines true [] early before begins)
+    ∙ ap (λ t. session_from t came) here
+    ∙ session_behind_replies sent (behind (reply ∷ []) (resumed first)) came
+    ∙ ap (behind sent) (session_behind_replies (reply ∷ []) (resumed first) came)
+  where
+    sent : List (List ℕ)
+    sent = (session_of first.rules early).replies
+
+    start : Session
+    start = waiting first.rules first.lines true sent
 
     reply : List ℕ
     reply = init_spelling (unique_of init.message) (init_step init.message)
 
-    here : with_message start init ≡ behind (reply ∷ []) (resumed first)
+    here : with_message start init ≡ behind sent (behind (reply ∷ []) (resumed first))
     here =
         plain_is start init plain.0
         ∙ ap (λ k. with_response (record start { handshake = record { agreed = agrees init.message k; over = false } })
         (own_answer init.message k)) kind
-        ∙ ap (λ b. record start { handshake = record { agreed = b; over = false }; replies = reply ∷ [] }) agreed
-        ∙ ap (λ h. record start { handshake = h; replies = reply ∷ [] }) (sym far)
+        ∙ ap (λ b. record start { handshake = record { agreed = b; over = false }; replies = sent ++ reply ∷ [] }) agreed
+        ∙ ap (λ h. record start { handshake = h; replies = sent ++ reply ∷ [] }) (sym far)

@@ -1,5 +1,6 @@
 -- What a session sends that goes on behind the lines of one that was cut off, and what makes the two as one.
-use Rattle.std.specs.Prelude.{◌≡◌, ℕ, ◌≤◌, ◌^◌, nat_le, true, false, List, [], ◌∷◌, ◌++◌, take, replicate, flat_map, if◌then◌else◌, Option, None, Some, Err}
+use Rattle.std.specs.Prelude.{◌≡◌, ℕ, ◌≤◌, ◌^◌, nat_le, Bool, true, false, List, [], ◌∷◌, ◌++◌, drop, take, flat_map}
+use Rattle.std.specs.Prelude.{if◌then◌else◌, Option, None, Some, Err}
 use Rattle.std.specs.List.{AllByRecursion}
 use Rattle.fl_desk.specs.Replay.{state_after}
 use Rattle.fl_history.specs.Recent.{recalled, recent}
@@ -47,7 +48,8 @@ reply_unmarked s (Some unique) it = reply_again s unique it
 -- all that a session sends when these messages come again
 abbrev pub replies_again : Session → List Came → List (List ℕ)
 replies_again s came =
-    flat_map (λ c. reply_unmarked s (unmarked true (unique_of c.message)) (incoming_by c.message (said c.message))) came
+    flat_map (λ c. reply_unmarked s (unmarked true (unique_of c.message)) (incoming_by c.message (said c.message)))
+    came
 
 -- ---- two sessions as one
 
@@ -75,16 +77,21 @@ AllPlain came = AllByRecursion (λ (c : Came). nat_le (2 ^ 63) (unique_of c.mess
 
 -- ---- a cut inside a batch
 
+-- none of these orders was refused
+abbrev pub NoneRefused : List Bool → Type 0
+NoneRefused refused = AllByRecursion (λ (r : Bool). r ≡ false) refused
+
 -- a session with so many orders of a batch, of which none was refused
 abbrev pub part_of : Session → List ℕ → ℕ → Session
 part_of s batch count = with_orders s (take count (forgets_in batch)) []
 
 -- A session was cut off behind so many orders of a batch whose unique was new to it, and had refused none of these. The
--- batch comes again with a mark, and its other orders are refused or not as those of the batch. It has at most 509, so
--- `few` is so.
+-- batch comes again with a mark, and its other orders are refused or not as those of the batch. A batch has at most 509
+-- orders, so `few` is so.
 pub record IsCutInside (s : Session) (count : ℕ) (batch marked : Came) : Type 0 where
   pub is_batch : said batch.message ≡ Err Batch
   pub same : SaysTheSame batch.message marked.message
   pub unknown : IsUnknown s (unique_of batch.message)
-  pub refused : batch.refused ≡ replicate count false ++ marked.refused
+  pub unrefused : NoneRefused (take count batch.refused)
+  pub refused : marked.refused ≡ drop count batch.refused
   pub few : count ≤ 65536

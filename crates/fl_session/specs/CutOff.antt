@@ -18,7 +18,8 @@ with_replies lines tolds = lines ++ map (λ told. line.Told told) tolds
 abbrev pub cut_in : Session → Came → ℕ → Session
 cut_in s batch count = with_orders s (take count (forgets_in batch.message)) batch.refused
 
--- The lines are those of a session. It is under way, or no message is left.
+-- The lines are those of a session. It is under way, or no message is left: it took all, or a DESTROY ended it, behind
+-- which messages are taken, and count for nothing.
 pub record AreOfSession (s : Session) (left : List Came) (lines : List Line) : Type 0 where
   pub far : (left ≡ []) ⊎ (s.handshake ≡ under_way)
   pub stand : lines ≡ s.lines

@@ -5,8 +5,8 @@
 //! conditions: it uses each unique for one message, and sends again, with a mark, each that it has no reply for and
 //! whose order or reply is among the last 65,536 lines, or whose request is parked, or that is new.
 
-ghost use Rattle.std.specs.Prelude.{◌≡◌, ◌≤◌, ℕ, ◌+◌, Bool, true, false, All, Contains, List, [], ◌∷◌, ◌++◌, length, take};
-ghost use Rattle.std.specs.Prelude.{drop, replicate, Some};
+ghost use Rattle.std.specs.Prelude.{◌≡◌, ◌≤◌, ℕ, ◌+◌, true, false, All, Contains, List, [], ◌∷◌, ◌++◌, length, take};
+ghost use Rattle.std.specs.Prelude.{drop, Some};
 ghost use mathlib.Core.List.{IsPrefix};
 ghost use Rattle.fl_desk.specs.Legal.{IsLegal};
 ghost use Rattle.fl_desk.specs.Replay.{state_after};
@@ -15,14 +15,15 @@ ghost use Rattle.fl_order.specs.OpKind.{kind_of_opcode};
 ghost use Rattle.fl_order.specs.declared.kind.OpKind.TheVariants as kinds;
 ghost use Rattle.fl_order.specs.declared.order.Order.{Order};
 ghost use Rattle.fl_order.specs.declared.told.Told.{Told};
-ghost use Rattle.fl_session.specs.AsOne.{AllPlain, AreAsOne, IsCutInside, IsSentAgain, part_of, replies_again};
+ghost use Rattle.fl_session.specs.AsOne.{AllPlain, AreAsOne, IsCutInside, IsSentAgain, NoneRefused, part_of};
+ghost use Rattle.fl_session.specs.AsOne.{replies_again};
 ghost use Rattle.fl_session.specs.CutOff.{AreTakenOf, cut_in, with_replies};
 ghost use Rattle.fl_session.specs.Known.{AreMarked, HaveBatch, HaveNothing, HaveOrder, HaveOwnUniques, HaveReply};
 ghost use Rattle.fl_session.specs.Known.{IsBatchAgain, IsOrderAgain, with_mark};
 ghost use Rattle.fl_session.specs.Once.{AllComeAgain, AreNew, ComesAgain, IsUnknown, SaysTheSame, resumed, under_way};
 ghost use Rattle.fl_session.specs.Session.{Came, Session, session_behind, session_from, session_of, with_message};
 ghost use Rattle.fl_session.specs.Session.{with_orders};
-ghost use Rattle.fl_transport.specs.Handshake.{incoming_by, is_agreed};
+ghost use Rattle.fl_transport.specs.Handshake.{incoming_by, is_agreed, opening};
 ghost use Rattle.fl_transport.specs.Response.{bytes_of};
 ghost use Rattle.fl_transport.specs.declared.handshake.Incoming.TheVariants as incoming;
 ghost use Rattle.fl_transport.specs.declared.response.Response.{Response};
@@ -37,16 +38,18 @@ ghost use Rattle.fl_wire.specs.Spell.{spelling_of};
 use fl_core::laws::settling_answers_the_oldest_first;
 use fl_desk::laws::{a_legal_history_goes_on_by_orders, own_reply_comes_first};
 
-/// A server was killed. The lines that it stored are a prefix of its history, and they have all lines of its first
-/// messages: of those whose replies its client got, by `IsAheadFrom`. With the replies that they lack they are legal.
-/// Then these are the lines of a session that took the first messages, some of the others, and perhaps a part of a
-/// batch. The laws below speak of such a session. If no order of the part was refused, it is a `part_of`.
+/// A server was killed. Suppose that the lines that it stored begin its history, and that they have all lines of its
+/// first messages. `IsAheadFrom` says the second, of the messages whose replies its client got; it doesn't say the
+/// first. With the replies that they lack the lines are legal. Then these are the lines of a session that took the
+/// first messages, some of the others, and perhaps a part of a batch. It is under way, or it took all: what stands
+/// behind a DESTROY counts for nothing, and is taken. The laws below speak of sessions under way. A part of a batch of
+/// which no order was refused is a `part_of`.
 pub fn what_a_cut_session_leaves_is_a_session()
     ensures left { (rules : Rules) (first others : List Came) (lines : List Line) (missing : List Told)
         → IsPrefix (session_of rules first).lines lines → IsPrefix lines (session_of rules (first ++ others)).lines
         → IsLegal rules (with_replies lines missing) → AreTakenOf rules first others (with_replies lines missing) }
-    ensures unrefused { (s : Session) (batch : Came) (count : ℕ) (later : List Bool)
-        → batch.refused ≡ replicate count false ++ later → cut_in s batch count ≡ part_of s batch.message count }
+    ensures unrefused { (s : Session) (batch : Came) (count : ℕ)
+        → NoneRefused (take count batch.refused) → cut_in s batch count ≡ part_of s batch.message count }
 {
     a_legal_history_goes_on_by_orders();
 }
@@ -58,25 +61,27 @@ pub fn to_know_marks_changes_nothing_without_one()
         → session_from (session_behind rules [] true) came ≡ record (session_of rules came) { resends = true } }
 {}
 
-/// A server goes on behind the lines of a session that was cut off. It first answers an INIT, as any server does. From
-/// then on it is as far as that session was, so it is the `resumed` of the laws below, with one reply more in front.
+/// A server goes on behind the lines of a session that was cut off. Until an INIT is agreed, it answers each message as
+/// any server does: also an INIT of another version, which a second one follows. Once one is agreed, it is as far as
+/// that session was, so it is the `resumed` of the laws below, with these replies in front.
 pub fn a_server_that_goes_on_answers_its_init_first()
-    ensures { (first : Session) (init : Came) (came : List Came) → first.handshake ≡ under_way
+    ensures { (first : Session) (early : List Came) (init : Came) (came : List Came) → first.handshake ≡ under_way
+        → (session_of first.rules early).handshake ≡ opening
         → kind_of_opcode (opcode_of init.message) ≡ Some kinds.Init → is_agreed (init_step init.message) ≡ true
-        → AllPlain (init ∷ [])
-        → session_from (session_behind first.rules first.lines true) (init ∷ came)
+        → AllPlain early → AllPlain (init ∷ [])
+        → session_from (session_behind first.rules first.lines true) (early ++ init ∷ came)
         ≡ record (session_from (resumed first) came) {
-          replies = init_spelling (unique_of init.message) (init_step init.message)
+          replies = (session_of first.rules early).replies
+              ++ init_spelling (unique_of init.message) (init_step init.message)
               ∷ (session_from (resumed first) came).replies;
         } }
 {}
 
-/// A session was cut off. Of the messages that had been sent to it, its lines have the orders of `taken`, and lack
-/// those of `unread`. Another goes on behind these lines. Once its INIT is agreed, messages come to it again whose
-/// orders the first one had, and then those that it lacked, marked. Then its lines are those of one session that wasn't
-/// cut off: no order is taken twice, and none is left out. It sends what the lines have for the messages that came
-/// again, and then what that one session sends behind the replies of the first. If it is cut off too, the law is the
-/// same for the next.
+/// A session of the messages of `taken` was cut off, and another goes on behind its lines. Once its INIT is agreed,
+/// messages come to it again whose orders the first one had, and then those of `unread`, marked, which are new to it.
+/// Then its lines are those of one session of `taken` and `unread`. It sends what the lines have for the messages that
+/// came again, and then what that one session sends behind the replies of the first. If it is cut off too, the law is
+/// the same for the next.
 pub fn a_session_goes_on_as_one()
     ensures { (rules : Rules) (taken again unread marked : List Came)
         → IsSentAgain (session_of rules taken) again unread marked
@@ -122,7 +127,8 @@ pub fn its_client_has_each_reply()
 
 /// New messages that come later to both, without a mark, are taken and answered alike.
 pub fn later_messages_are_as_in_one_session()
-    ensures { (first other one : Session) (again later : List Came) → AreAsOne first other one again → AllPlain later
+    ensures { (first other one : Session) (again later : List Came)
+        → AreAsOne first other one again → AllPlain later
         → AreAsOne first (session_from other later) (session_from one later) again }
 {}
 
@@ -130,7 +136,8 @@ pub fn later_messages_are_as_in_one_session()
 /// itself answered to a message.
 pub fn a_reply_is_sent_again()
     ensures stored { (s : Session) (again : List Came) (c : Came) (told : Told) → HaveReply s.lines told
-        → Contains again c → IsOrderAgain told.unique c.message → Contains (replies_again s again) (spelling_of told) }
+        → Contains again c → IsOrderAgain told.unique c.message
+        → Contains (replies_again s again) (spelling_of told) }
     ensures own { (s : Session) (again : List Came) (c same : Came) (response : Response) (reply : List ℕ)
         → SaysTheSame c.message same.message → incoming_by c.message (said c.message) ≡ incoming.Response response
         → Contains (bytes_of response) reply → Contains again same → Contains (replies_again s again) reply }

@@ -50,7 +50,8 @@ pub record IsTaken {K : Type 0} (old new : Server K) (replies : List (List ℕ))
       ≡ with_order (session_with old before) refused order
 
 -- The same of orders of which these are left. What becomes of those, becomes of them behind the others.
-pub record AreTaken {K : Type 0} (old new : Server K) (replies : List (List ℕ)) (orders left : List Order) : Type 0 where
+pub record AreTaken {K : Type 0} (old new : Server K) (replies : List (List ℕ)) (orders left : List Order)
+    : Type 0 where
   pub refused : List Bool
   pub is : (before : List (List ℕ)) (later : List Bool)
       → with_orders (session_with new (before ++ replies)) left later
