@@ -57,13 +57,13 @@ has_each first other one again got two all =
 
 -- ---- a unique that no line has
 
-other_said : (unique : ℕ) (before : Recalled) (l : Line) → unique_in l ≢ unique → with_line unique before l ≡ before
+pub other_said : (unique : ℕ) (before : Recalled) (l : Line) → unique_in l ≢ unique → with_line unique before l ≡ before
 other_said unique before (line.Asked worker order) other =
     ap (λ is. if is then with_ask before else before) (ne_eqb order.unique unique other)
 other_said unique before (line.Told told) other =
     ap (λ is. if is then recall.Told told else before) (ne_eqb told.unique unique other)
 
-others_said : (unique : ℕ) (before : Recalled) (lines : List Line) → HaveNothing unique lines
+pub others_said : (unique : ℕ) (before : Recalled) (lines : List Line) → HaveNothing unique lines
     → fold (with_line unique) before lines ≡ before
 others_said unique before [] none = refl
 others_said unique before (l ∷ lines) none =
@@ -77,7 +77,7 @@ nothing_unknown s unique none = record {
 
 -- ---- a reply in the last lines
 
-told_said : (told : Told) (before : Recalled) → with_line told.unique before (line.Told told) ≡ recall.Told told
+pub told_said : (told : Told) (before : Recalled) → with_line told.unique before (line.Told told) ≡ recall.Told told
 told_said told before = ap (λ is. if is then recall.Told told else before) (eq-eqb told.unique told.unique refl)
 
 reply_recalled : (lines : List Line) (told : Told) → HaveReply lines told → recalled told.unique (recent lines) ≡ recall.Told told
@@ -95,7 +95,7 @@ reply_recalled lines told h =
     ∙ ap (λ b. fold (with_line u) b h.after) (told_said told (fold (with_line u) (recall.Asked 0) (drop n front)))
     ∙ others_said u (recall.Told told) h.after h.none_after
 
-asked_said : (unique worker : ℕ) (order : Order) → order.unique ≡ unique
+pub asked_said : (unique worker : ℕ) (order : Order) → order.unique ≡ unique
     → with_line unique (recall.Asked 0) (line.Asked worker order) ≡ recall.Asked 1
 asked_said unique worker order named =
     ap (λ is. if is then recall.Asked (0 + 1) else recall.Asked 0) (eq-eqb order.unique unique named)
@@ -134,7 +134,7 @@ batch_recalled lines u orders h =
 
 -- ---- a message whose order is there comes again
 
-or_true : (a : Bool) → (a || true) ≡ true
+pub or_true : (a : Bool) → (a || true) ≡ true
 or_true true = refl
 or_true false = refl
 
@@ -184,22 +184,22 @@ batch_comes s unique orders message h batch =
 
 -- ---- what is sent again
 
-had_reply : (waits : Bool) (found : Recalled) (told : Told) → waits ≡ false → found ≡ recall.Told told
+pub had_reply : (waits : Bool) (found : Recalled) (told : Told) → waits ≡ false → found ≡ recall.Told told
     → (if waits then [] else reply_in found) ≡ spelling_of told ∷ []
 had_reply waits found told free some = rw (free, some) refl
 
-flat_contains : {X A : Type 0} (f : X → List A) (xs : List X) (x : X) (a : A) → Contains xs x → Contains (f x) a
+pub head_is : {X : Type 0} (y x : X) → Contains (y ∷ []) x → x ≡ y
+head_is y x (zero, lt, e) = sym e
+head_is y x (suc k, lt, e) = absurd (omega (arith, lt))
+
+pub flat_contains : {X A : Type 0} (f : X → List A) (xs : List X) (x : X) (a : A) → Contains xs x → Contains (f x) a
     → Contains (flat_map f xs) a
 flat_contains f [] x a in_xs in_f = absurd (let lt = in_xs.1 in omega (arith, lt))
 flat_contains f (y ∷ xs) x a in_xs in_f =
     ⊎_elim (λ head. Contains-append_left (f y) (flat_map f xs) a
-    (subst (λ z. Contains (f z) a) (head_is head) in_f))
+    (subst (λ z. Contains (f z) a) (head_is y x head) in_f))
     (λ tail. Contains-append_right (f y) (flat_map f xs) a (flat_contains f xs x a tail in_f))
     (Contains-append_cases (y ∷ []) xs x in_xs)
-  where
-    head_is : Contains (y ∷ []) x → x ≡ y
-    head_is (zero, lt, e) = sym e
-    head_is (suc k, lt, e) = absurd (omega (arith, lt))
 
 pub reply_comes_again : (s : Session) (again : List Came) (c : Came) (told : Told) → HaveReply s.lines told
     → Contains again c → IsOrderAgain told.unique c.message → Contains (replies_again s again) (spelling_of told)

@@ -1,5 +1,6 @@
 pub mod AgainLemmas
 pub mod BatchLemmas
+pub mod ClientLemmas
 pub mod CutLemmas
 pub mod FirstLemmas
 pub mod KnownLemmas
@@ -8,9 +9,11 @@ pub mod MarkLemmas
 pub mod MeetLemmas
 pub mod NewLemmas
 pub mod OnceLemmas
+pub mod OneReplyLemmas
 pub mod ParkedLemmas
 pub mod Prefixes
 pub mod RecallLemmas
+pub mod RepliedLemmas
 pub mod ReplyingLemmas
 pub mod RulesLemmas
 pub mod ServedLemmas

@@ -42,7 +42,7 @@ use Rattle.fl_wire.specs.Says.{asked, order_of, said}
 differs : (u : ℕ) (r : Request) (parked : List Request) → many u (r ∷ parked) ≡ 0 → r.unique ≢ u
 differs u r parked e = λ same. let one : bit (r.unique == u) ≡ 1 = ap bit (eq-eqb r.unique u same) in omega (arith, one, e)
 
-both_others : (u : ℕ) (xs ys : List Told) → AllOthers u xs → AllOthers u ys → AllOthers u (xs ++ ys)
+pub both_others : (u : ℕ) (xs ys : List Told) → AllOthers u xs → AllOthers u ys → AllOthers u (xs ++ ys)
 both_others u [] ys first second = second
 both_others u (x ∷ xs) ys first second = (first.0, both_others u xs ys first.1 second)
 
@@ -90,7 +90,7 @@ settled_others u (one {m} {parked} {tolds} {after} older r younger stands all fr
 abbrev pub Settles : Type 0
 Settles = (rules : Rules) (s : Present) → IsSettled rules s (settled rules s).tolds (settled rules s).present
 
-replies_others : Settles → (u : ℕ) (p : Snapshot) (order : Order) → order.unique ≢ u → many u p.view.parked ≡ 0
+pub replies_others : Settles → (u : ℕ) (p : Snapshot) (order : Order) → order.unique ≢ u → many u p.view.parked ≡ 0
     → AllOthers u (replies p order)
 replies_others settles u p order other none =
     let after : Snapshot = after_first p order in
@@ -103,11 +103,11 @@ replies_others settles u p order other none =
 
 -- ---- lines of other uniques
 
-both_nothing : (u : ℕ) (xs ys : List Line) → HaveNothing u xs → HaveNothing u ys → HaveNothing u (xs ++ ys)
+pub both_nothing : (u : ℕ) (xs ys : List Line) → HaveNothing u xs → HaveNothing u ys → HaveNothing u (xs ++ ys)
 both_nothing u [] ys first second = second
 both_nothing u (x ∷ xs) ys first second = (first.0, both_nothing u xs ys first.1 second)
 
-tolds_nothing : (u : ℕ) (tolds : List Told) → AllOthers u tolds → HaveNothing u (map (λ told. line.Told told) tolds)
+pub tolds_nothing : (u : ℕ) (tolds : List Told) → AllOthers u tolds → HaveNothing u (map (λ told. line.Told told) tolds)
 tolds_nothing u [] others = tt
 tolds_nothing u (told ∷ tolds) others = (others.0, tolds_nothing u tolds others.1)
 
@@ -120,27 +120,32 @@ order_apart settles u s false order other none =
     both_nothing u s.lines (step_lines 0 order (replies p order)) none
     (other, tolds_nothing u (replies p order) (replies_others settles u p order other free))
 
+-- this stays so of a session's lines as it takes orders of other uniques
+abbrev pub IsKept : ℕ → (List Line → Type 0) → Type 0
+IsKept u P =
+    (s : Session) (refused : Bool) (order : Order) → order.unique ≢ u → P s.lines → P (with_order s refused order).lines
+
 -- orders of a unique that isn't this one
-abbrev AllApart : ℕ → List Order → Type 0
+abbrev pub AllApart : ℕ → List Order → Type 0
 AllApart u orders = AllByRecursion (λ (o : Order). o.unique ≢ u) orders
 
-orders_apart : Settles → (u : ℕ) (s : Session) (orders : List Order) (refused : List Bool) → AllApart u orders
-    → HaveNothing u s.lines → HaveNothing u (with_orders s orders refused).lines
-orders_apart settles u s [] refused others none = none
-orders_apart settles u s (o ∷ orders) [] others none =
-    orders_apart settles u (with_order s false o) orders [] others.1 (order_apart settles u s false o others.0 none)
-orders_apart settles u s (o ∷ orders) (first ∷ refused) others none =
-    orders_apart settles u (with_order s first o) orders refused others.1 (order_apart settles u s first o others.0 none)
+pub orders_apart : (u : ℕ) (P : List Line → Type 0) → IsKept u P → (s : Session) (orders : List Order) (refused : List Bool)
+    → AllApart u orders → P s.lines → P (with_orders s orders refused).lines
+orders_apart u P kept s [] refused others so = so
+orders_apart u P kept s (o ∷ orders) [] others so =
+    orders_apart u P kept (with_order s false o) orders [] others.1 (kept s false o others.0 so)
+orders_apart u P kept s (o ∷ orders) (first ∷ refused) others so =
+    orders_apart u P kept (with_order s first o) orders refused others.1 (kept s first o others.0 so)
 
-incoming_apart : Settles → (u : ℕ) (s : Session) (refused : List Bool) (it : Incoming) → AllApart u (orders_in it)
-    → HaveNothing u s.lines → HaveNothing u (with_incoming s refused it).lines
-incoming_apart settles u s refused (incoming.Order order) others none = orders_apart settles u s (order ∷ []) refused others none
-incoming_apart settles u s refused (incoming.Batch orders) others none = orders_apart settles u s orders refused others none
-incoming_apart settles u s refused (incoming.Response response) others none = none
+incoming_apart : (u : ℕ) (P : List Line → Type 0) → IsKept u P → (s : Session) (refused : List Bool) (it : Incoming)
+    → AllApart u (orders_in it) → P s.lines → P (with_incoming s refused it).lines
+incoming_apart u P kept s refused (incoming.Order order) others so = orders_apart u P kept s (order ∷ []) refused others so
+incoming_apart u P kept s refused (incoming.Batch orders) others so = orders_apart u P kept s orders refused others so
+incoming_apart u P kept s refused (incoming.Response response) others so = so
 
 -- ---- the orders of a message have its unique
 
-forgets_apart : (u : ℕ) (message : List ℕ) (pairs : List ℕ) → unique_of message ≢ u
+pub forgets_apart : (u : ℕ) (message : List ℕ) (pairs : List ℕ) → unique_of message ≢ u
     → AllApart u (map (forget_at message) pairs)
 forgets_apart u message [] other = tt
 forgets_apart u message (i ∷ pairs) other = (other, forgets_apart u message pairs other)
@@ -163,15 +168,15 @@ of_apart : (agreed : Bool) (u : ℕ) (it : Incoming) (message : List ℕ) → Al
 of_apart true u it message others = others
 of_apart false u it message others = tt
 
-message_apart : Settles → (u : ℕ) (s : Session) (c : Came) → s.resends ≡ false → unique_of c.message ≢ u
-    → HaveNothing u s.lines → HaveNothing u (with_message s c).lines
-message_apart settles u s c lacks other none =
-    nothing_if s.handshake.over s there none
-    (subst (λ b. HaveNothing u (with_either now (unmarked b (unique_of c.message)) c.refused it).lines) (sym lacks)
-    (incoming_apart settles u now c.refused it
+pub message_apart : (u : ℕ) (P : List Line → Type 0) → IsKept u P → (s : Session) (c : Came) → s.resends ≡ false
+    → unique_of c.message ≢ u → P s.lines → P (with_message s c).lines
+message_apart u P kept s c lacks other so =
+    so_if s.handshake.over s there so
+    (subst (λ b. P (with_either now (unmarked b (unique_of c.message)) c.refused it).lines) (sym lacks)
+    (incoming_apart u P kept now c.refused it
     (of_apart s.handshake.agreed u (incoming_by c.message (said c.message)) c.message
     (said_apart (is_batch c.message) u c.message (asked (kind_of_opcode (opcode_of c.message)) c.message) other))
-    none))
+    so))
   where
     now : Session
     now = record s { handshake = advanced s.handshake c.message }
@@ -182,19 +187,19 @@ message_apart settles u s c lacks other none =
     there : Session
     there = with_either now (unmarked s.resends (unique_of c.message)) c.refused it
 
-    nothing_if : (over : Bool) (s t : Session) → HaveNothing u s.lines → HaveNothing u t.lines
-        → HaveNothing u (if over then s else t).lines
-    nothing_if true s t first second = first
-    nothing_if false s t first second = second
+    so_if : (over : Bool) (s t : Session) → P s.lines → P t.lines → P (if over then s else t).lines
+    so_if true s t first second = first
+    so_if false s t first second = second
 
 -- ---- all of them
 
-still_own : Settles → (s : Session) (c : Came) (came : List Came) → s.resends ≡ false
+pub still_own : Settles → (s : Session) (c : Came) (came : List Came) → s.resends ≡ false
     → AllByRecursion (λ (d : Came). unique_of d.message ≢ unique_of c.message) came → HaveOwnUniques s.lines came
     → HaveOwnUniques (with_message s c).lines came
 still_own settles s c [] lacks others own = tt
 still_own settles s c (d ∷ came) lacks others own = (
-  message_apart settles (unique_of d.message) s c lacks (λ same. others.0 (sym same)) own.0,
+  message_apart (unique_of d.message) (HaveNothing (unique_of d.message)) (order_apart settles (unique_of d.message)) s c lacks
+      (λ same. others.0 (sym same)) own.0,
   own.1,
   still_own settles s c came lacks others.1 own.2,
 )

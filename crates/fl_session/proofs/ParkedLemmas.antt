@@ -48,9 +48,9 @@ left_by None parked = parked
 left_by (Some p) parked = p.1
 
 -- one less of the unique that was looked for, and no more of any other
-record AreFewer (u v : ℕ) (before after : List Request) : Type 0 where
-  most : many u after ≤ many u before
-  less : v ≡ u → many u after ≤ many u before - 1
+pub record AreFewer (u v : ℕ) (before after : List Request) : Type 0 where
+  pub most : many u after ≤ many u before
+  pub less : v ≡ u → many u after ≤ many u before - 1
 
 kept_by : (u v : ℕ) (r : Request) (parked : List Request) (found : Option (Request × List Request)) → (r.unique == v) ≡ false
     → AreFewer u v parked (left_by found parked)
@@ -93,7 +93,7 @@ later_left : (found : Option (Request × List Request)) (reply : Result Answer E
 later_left None reply v = refl
 later_left (Some p) reply v = refl
 
-later_fewer : (u : ℕ) (told : Told) (v : View) → AreFewer u told.unique v.parked (later told v).view.parked
+pub later_fewer : (u : ℕ) (told : Told) (v : View) → AreFewer u told.unique v.parked (later told v).view.parked
 later_fewer u told v =
     subst (AreFewer u told.unique v.parked) (sym (later_left (taken_out told.unique v.parked) told.result v))
     (taken_fewer u told.unique v.parked)
@@ -139,7 +139,7 @@ abbrev weight : ℕ → Reading → ℕ
 weight u r = many u r.state.view.parked + pending u r.waiting
 
 -- with one line more
-abbrev counted : ℕ → ℕ → Line → ℕ
+abbrev pub counted : ℕ → ℕ → Line → ℕ
 counted u n (line.Asked worker order) = n + bit (order.unique == u)
 counted u n (line.Told told) = n - bit (told.unique == u)
 
@@ -160,7 +160,7 @@ own_less true false u v w n same is at = absurd (cc (same, is, at))
 own_less false true u v w n same is at = omega arith
 own_less false false u v w n same is at = omega arith
 
-first_by : (b : Bool) (u : ℕ) (order : Order) (told : Told) (v : View) → (told.unique == order.unique) ≡ b
+pub first_by : (b : Bool) (u : ℕ) (order : Order) (told : Told) (v : View) → (told.unique == order.unique) ≡ b
     → many u (if b then at_once order (Some told.result) v else followed_by (later told) (at_once order None v)).view.parked
     ≤ (many u v.parked + bit (order.unique == u)) - bit (told.unique == u)
 first_by true u order told v is =
@@ -176,7 +176,7 @@ first_by false u order told v is =
 
 -- an order and its replies park no more than it
 
-laters_most : (u : ℕ) (e : Effect) (tolds : List Told)
+pub laters_most : (u : ℕ) (e : Effect) (tolds : List Told)
     → many u (fold (λ e t. followed_by (later t) e) e tolds).view.parked ≤ many u e.view.parked
 laters_most u e [] = omega arith
 laters_most u e (told ∷ tolds) =
@@ -210,14 +210,18 @@ lines_counted : (u n : ℕ) (r : Reading) (lines : List Line) → weight u r ≤
 lines_counted u n r [] le = le
 lines_counted u n r (l ∷ lines) le = lines_counted u (counted u n l) (read_line r l) lines (line_counted u n r l le)
 
--- if none is left by this count, none is parked
-pub counted_none : (u : ℕ) (rules : Rules) (lines : List Line) → fold (counted u) 0 lines ≡ 0
-    → many u (state_after rules lines).view.parked ≡ 0
-counted_none u rules lines e =
+-- no more are parked than by this count
+pub counted_most : (u : ℕ) (rules : Rules) (lines : List Line)
+    → many u (state_after rules lines).view.parked ≤ fold (counted u) 0 lines
+counted_most u rules lines =
     let start : weight u (unread rules) ≤ 0 = omega arith in
     let all = lines_counted u 0 (unread rules) lines start in
     let last = committed_most u (fold read_line (unread rules) lines).waiting (fold read_line (unread rules) lines).state in
-    omega (arith, e, all, last)
+    omega (arith, all, last)
+
+pub counted_none : (u : ℕ) (rules : Rules) (lines : List Line) → fold (counted u) 0 lines ≡ 0
+    → many u (state_after rules lines).view.parked ≡ 0
+counted_none u rules lines e = let most = counted_most u rules lines in omega (arith, e, most)
 
 pub counted_free : (u : ℕ) (rules : Rules) (lines : List Line) → fold (counted u) 0 lines ≡ 0
     → is_parked u (state_after rules lines).view.parked ≡ false
@@ -234,12 +238,11 @@ others_counted u n [] none = refl
 others_counted u n (l ∷ lines) none =
     ap (λ m. fold (counted u) m lines) (other_counted u n l none.0) ∙ others_counted u n lines none.1
 
-one_counted : (u : ℕ) (worker : ℕ) (order : Order) (told : Told) → order.unique ≡ u → told.unique ≡ u
-    → (counted u 0 (line.Asked worker order) ≡ 1) × (counted u 1 (line.Told told) ≡ 0)
-one_counted u worker order told named own = (
-  ap (λ b. 0 + bit b) (eq-eqb order.unique u named) ∙ omega arith,
-  ap (λ b. 1 - bit b) (eq-eqb told.unique u own) ∙ omega arith,
-)
+pub asked_one : (u : ℕ) (worker : ℕ) (order : Order) → order.unique ≡ u → counted u 0 (line.Asked worker order) ≡ 1
+asked_one u worker order named = ap (λ b. 0 + bit b) (eq-eqb order.unique u named) ∙ omega arith
+
+pub told_one : (u : ℕ) (told : Told) → told.unique ≡ u → counted u 1 (line.Told told) ≡ 0
+told_one u told own = ap (λ b. 1 - bit b) (eq-eqb told.unique u own) ∙ omega arith
 
 -- an order and its reply leave none
 pub replied_free : (rules : Rules) (lines : List Line) (told : Told) → HaveReply lines told
@@ -248,15 +251,14 @@ replied_free rules lines told h =
     let u : ℕ = told.unique in
     let ask : Line = line.Asked h.worker h.order in
     let tell : Line = line.Told told in
-    let one = one_counted u h.worker h.order told h.named refl in
     let front : fold (counted u) 0 (h.before ++ ask ∷ h.between) ≡ 1 =
     fold-append (counted u) 0 h.before (ask ∷ h.between)
     ∙ ap (λ n. fold (counted u) n (ask ∷ h.between)) (others_counted u 0 h.before h.none_before)
-    ∙ ap (λ n. fold (counted u) n h.between) one.0
+    ∙ ap (λ n. fold (counted u) n h.between) (asked_one u h.worker h.order h.named)
     ∙ others_counted u 1 h.between h.none_between in
     counted_free u rules lines
     (ap (fold (counted u) 0) h.stand
     ∙ fold-append (counted u) 0 (h.before ++ ask ∷ h.between) (tell ∷ h.after)
     ∙ ap (λ n. fold (counted u) n (tell ∷ h.after)) front
-    ∙ ap (λ n. fold (counted u) n h.after) one.1
+    ∙ ap (λ n. fold (counted u) n h.after) (told_one u told refl)
     ∙ others_counted u 0 h.after h.none_after)

@@ -1,5 +1,6 @@
 pub mod Again
 pub mod AsOne
+pub mod Client
 pub mod CutOff
 pub mod Inside
 pub mod Known

@@ -1,29 +1,31 @@
 //! Laws of the definitions, in the words of their subject. Each is the contract of an empty function.
 //!
-//! The first three say what a server that was killed leaves, and from what the next one goes on. Five say what a
-//! session does that goes on behind the lines of one that was cut off. The others say how its client meets their
-//! conditions: it uses each unique for one message, and sends again, with a mark, each that it has no reply for and
-//! whose order or reply is among the last 65,536 lines, or whose request is parked, or that is new.
+//! The first three say what a server that was killed leaves, and from what the next one goes on. The fourth is the
+//! whole in a client's words: it uses each unique for one message, and sends again, with a mark, some of those that the
+//! first session took, and then all others. Five say the same in the words of sessions, and more of a cut inside a
+//! batch. The others say which replies come again, and how single messages meet the conditions.
 
 ghost use Rattle.std.specs.Prelude.{◌≡◌, ◌≤◌, ℕ, ◌+◌, true, false, All, Contains, List, [], ◌∷◌, ◌++◌, length, take};
-ghost use Rattle.std.specs.Prelude.{drop, Some};
+ghost use Rattle.std.specs.Prelude.{drop, Some, Ok};
 ghost use mathlib.Core.List.{IsPrefix};
 ghost use Rattle.fl_desk.specs.Legal.{IsLegal};
 ghost use Rattle.fl_desk.specs.Replay.{state_after};
 ghost use Rattle.fl_history.specs.declared.history.Line.{Line};
+ghost use Rattle.fl_history.specs.declared.history.Line.TheVariants as line;
 ghost use Rattle.fl_order.specs.OpKind.{kind_of_opcode};
 ghost use Rattle.fl_order.specs.declared.kind.OpKind.TheVariants as kinds;
 ghost use Rattle.fl_order.specs.declared.order.Order.{Order};
 ghost use Rattle.fl_order.specs.declared.told.Told.{Told};
 ghost use Rattle.fl_session.specs.AsOne.{AllPlain, AreAsOne, IsCutInside, IsSentAgain, NoneRefused, part_of};
 ghost use Rattle.fl_session.specs.AsOne.{replies_again};
+ghost use Rattle.fl_session.specs.Client.{AreOnesAgain, HasTaken, IsNear};
 ghost use Rattle.fl_session.specs.CutOff.{AreTakenOf, cut_in, with_replies};
 ghost use Rattle.fl_session.specs.Known.{AreMarked, HaveBatch, HaveNothing, HaveOrder, HaveOwnUniques, HaveReply};
 ghost use Rattle.fl_session.specs.Known.{IsBatchAgain, IsOrderAgain, with_mark};
 ghost use Rattle.fl_session.specs.Once.{AllComeAgain, AreNew, ComesAgain, IsUnknown, SaysTheSame, resumed, under_way};
 ghost use Rattle.fl_session.specs.Session.{Came, Session, session_behind, session_from, session_of, with_message};
 ghost use Rattle.fl_session.specs.Session.{with_orders};
-ghost use Rattle.fl_transport.specs.Handshake.{incoming_by, is_agreed, opening};
+ghost use Rattle.fl_transport.specs.Handshake.{incoming_by, is_agreed, opening, says_destroy};
 ghost use Rattle.fl_transport.specs.Response.{bytes_of};
 ghost use Rattle.fl_transport.specs.declared.handshake.Incoming.TheVariants as incoming;
 ghost use Rattle.fl_transport.specs.declared.response.Response.{Response};
@@ -77,11 +79,48 @@ pub fn a_server_that_goes_on_answers_its_init_first()
         } }
 {}
 
+/// A client uses each unique for one message. A session that was under way took those of `taken`, refused none for
+/// memory, and was cut off before those of `unread`. The client sends some of `taken` again, each with a mark, and then
+/// those of `unread`, marked. What the session has of each that comes again is near: its request is parked, or the last
+/// lines say of it what all lines say, as they do of everything if there are at most 65,536. Then the lines of the
+/// session that goes on are those of one session of `early`, `taken` and `unread`: no order is taken twice, and none is
+/// left out. The same is so of a cut inside a batch, which comes again between the two. A reply that the first session
+/// gave to an order of `taken` is sent again if its message is.
+pub fn a_client_that_sends_again_has_one_session()
+    ensures one { (rules : Rules) (early taken again unread marked : List Came)
+        → HasTaken (session_of rules early) taken unread
+        → AreOnesAgain (session_of rules (early ++ taken)) taken again → AreMarked unread marked
+        → AreAsOne (session_of rules (early ++ taken))
+        (session_from (resumed (session_of rules (early ++ taken))) (again ++ marked))
+        (session_of rules (early ++ (taken ++ unread))) again }
+    ensures batch { (rules : Rules) (early taken again unread marked : List Came) (batch same : Came) (count : ℕ)
+        → HasTaken (session_of rules early) taken (batch ∷ unread)
+        → IsCutInside (session_of rules (early ++ taken)) count batch same
+        → AreOnesAgain (part_of (session_of rules (early ++ taken)) batch.message count) taken again
+        → AreMarked unread marked
+        → AreAsOne (part_of (session_of rules (early ++ taken)) batch.message count)
+        (session_from (resumed (part_of (session_of rules (early ++ taken)) batch.message count))
+        (again ++ same ∷ marked))
+        (session_of rules (early ++ (taken ++ batch ∷ unread))) again }
+    ensures replied { (rules : Rules) (early taken again unread : List Came) (c same : Came) (order : Order)
+        (told : Told) → HasTaken (session_of rules early) taken unread
+        → AreOnesAgain (session_of rules (early ++ taken)) taken again
+        → Contains taken c → said c.message ≡ Ok order → told.unique ≡ unique_of c.message
+        → Contains (session_of rules (early ++ taken)).lines (line.Told told)
+        → Contains again same → SaysTheSame c.message same.message
+        → Contains (replies_again (session_of rules (early ++ taken)) again) (spelling_of told) }
+    ensures short { (s : Session) (unique : ℕ) → length s.lines ≤ 65536 → IsNear s unique }
+{
+    settling_answers_the_oldest_first();
+    own_reply_comes_first();
+    a_legal_history_goes_on_by_orders();
+}
+
 /// A session of the messages of `taken` was cut off, and another goes on behind its lines. Once its INIT is agreed,
 /// messages come to it again whose orders the first one had, and then those of `unread`, marked, which are new to it.
 /// Then its lines are those of one session of `taken` and `unread`. It sends what the lines have for the messages that
 /// came again, and then what that one session sends behind the replies of the first. If it is cut off too, the law is
-/// the same for the next.
+/// the same for the next. The law before this one says which messages a client may send so.
 pub fn a_session_goes_on_as_one()
     ensures { (rules : Rules) (taken again unread marked : List Came)
         → IsSentAgain (session_of rules taken) again unread marked
@@ -144,7 +183,8 @@ pub fn a_reply_is_sent_again()
 {}
 
 /// A session has the order of a message if its reply is among the last 65,536 lines, or the order itself without a
-/// reply, or if its request is parked. It has those of a batch if they all are among these lines.
+/// reply, or if its request is parked. It has those of a batch if they all are among these lines. A message that is no
+/// order, since the session itself answers it, comes again to each session, but a DESTROY.
 pub fn a_message_comes_again_whose_order_is_there()
     ensures replied { (s : Session) (told : Told) (message : List ℕ) → HaveReply s.lines told
         → IsOrderAgain told.unique message → ComesAgain s message }
@@ -155,6 +195,9 @@ pub fn a_message_comes_again_whose_order_is_there()
     ensures parked { (s : Session) (unique : ℕ) (message : List ℕ)
         → is_parked unique (state_after s.rules s.lines).view.parked ≡ true → IsOrderAgain unique message
         → ComesAgain s message }
+    ensures own { (s : Session) (message marked : List ℕ) (response : Response)
+        → SaysTheSame message marked → incoming_by message (said message) ≡ incoming.Response response
+        → says_destroy (said message) ≡ false → ComesAgain s marked }
 {}
 
 /// A unique that no line has is new to a session with these lines.
