@@ -1,5 +1,6 @@
 -- What a session did that went on behind the lines of a trace, and what the server leaves of it.
 use Rattle.std.specs.Prelude.{◌≢◌, ◌++◌, ℕ, true, List, Option, Some, IsTrue}
+use mathlib.Core.List.{IsPrefix}
 use Rattle.fl_desk.specs.Legal.{IsLegal}
 use Rattle.fl_history.specs.declared.history.Line.{Line}
 use Rattle.fl_judge.specs.Present.{told_lines}
@@ -20,11 +21,11 @@ abbrev pub lines_at : ResumePoint → List Line
 lines_at point = point.resumed.past.items ++ told_lines point.resumed.missing
 
 -- A session was served behind these lines under these rules, where a message may be sent again, and all lines together
--- are legal. The file has the text of a beginning of them, and of all of them if it is said to be whole. It has the
--- text of the stored lines, with or without more behind it, and whatever the client got are replies to some of the very
--- messages that came, whose lines are stored. `contents` is what a file says that it holds.
-pub record IsResumed {T : Type 0} (rules : Rules) (base : List Line) (contents : T → Option (List ℕ)) (streams : Streams)
-    (ended : ResumedRun T) : Type 0 where
+-- are legal. The file has a prefix of their text, which may end within a line, and all of it if it is said to be whole.
+-- It has all text of the stored lines, which are the first of the lines. Whatever the client got are replies to the
+-- first of the very messages that came, whose lines are stored. `contents` is what a file says that it holds.
+pub record IsResumed {T : Type 0} (rules : Rules) (base : List Line) (contents : T → Option (List ℕ))
+    (streams : Streams) (ended : ResumedRun T) : Type 0 where
   pub lines : List Line
   pub stored : List Line
   pub served : IsServedBehind rules base streams ended.broken
@@ -33,6 +34,7 @@ pub record IsResumed {T : Type 0} (rules : Rules) (base : List Line) (contents :
   pub begun : IsBegun contents (contents ended.file) lines
   pub whole : IsTrue ended.whole → Wrote contents (contents ended.file) (text_of lines)
   pub there : HoldsText contents (contents ended.file) stored
+  pub front : IsPrefix stored lines
   pub ahead : IsAheadFrom (session_behind rules base true) served.came streams stored
 
 -- A session went on behind these lines, and this is what the server leaves of it. All speaks of one and the same

@@ -1,6 +1,7 @@
 //! Lines that are stored in a file before replies leave.
 
 ghost use Rattle.std.specs.Prelude.{◌≡◌, IfOk};
+ghost use mathlib.Core.List.{IsPrefix};
 ghost use Rattle.fl_stream.specs.Streams.{IsAs};
 ghost use Rattle.fl_trace.specs.Text.{text_of};
 
@@ -47,11 +48,14 @@ impl<T: Write> AheadLines<T> {
         })
     }
 
-    /// The stream.
+    /// The stream, which never goes on without its writer.
     pub(crate) fn into_stream(self) -> Streamed<T>
-        ensures { result ≡ self }
+        ensures value { result ≡ self }
+        ensures front { IsPrefix self.noted self.lines }
     {
         let AheadLines { stream } = self;
+        let broken = stream.is_broken();
+        prove!(!broken);
         stream
     }
 }

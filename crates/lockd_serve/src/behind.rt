@@ -1,10 +1,8 @@
 //! A session behind the lines of a trace.
 
-ghost use Rattle.std.specs.Prelude.{◌≡◌, ◌≢◌, ◌++◌, List, Some, IfOk, OnErr, IsTrue};
+ghost use Rattle.std.specs.Prelude.{◌≡◌, ◌≢◌, ◌++◌, Some, IfOk, OnErr, IsTrue};
 ghost use Rattle.std.specs.Io.KnownBytes.{Keeps};
-ghost use mathlib.Core.List.{IsPrefix};
 ghost use Rattle.fl_desk.specs.Kept.{IsKept};
-ghost use Rattle.fl_history.specs.declared.history.Line.{Line as Entry};
 ghost use Rattle.fl_judge.specs.Present.{told_lines};
 ghost use Rattle.fl_transport.specs.declared.fault.Fault.{Fault as SessionFault};
 ghost use Rattle.lockd_serve.specs.Resumed.{IsResumed, lines_at};
@@ -126,8 +124,9 @@ fn recent_behind(recent: Recent, missing: &[Told]) -> Recent
 }
 
 // Writes what waits, and gives the file, and whether it has the text of all lines.
+#[tactic(auto, using(crate::proofs::Stored::fewer_there))]
 fn finish<T: Write>(stream: Streamed<T>) -> (T, bool)
-    ensures there { (noted : List Entry) × IsPrefix stream.noted noted × HoldsText T.contents (T.contents result.0) noted }
+    ensures there { HoldsText T.contents (T.contents result.0) stream.noted }
     ensures begun { IsBegun T.contents (T.contents result.0) stream.lines }
     ensures whole { IsTrue result.1 → Wrote T.contents (T.contents result.0) (text_of stream.lines) }
 {

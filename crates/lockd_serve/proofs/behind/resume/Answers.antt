@@ -4,7 +4,7 @@ use Rattle.fl_history.specs.declared.history.Line.{Line}
 use Rattle.fl_judge.specs.Present.{told_lines}
 use mathlib.Core.List.{IsPrefix}
 use Rattle.lockd_serve.proofs.Stored.{served_as, so_of}
-use Rattle.fl_stream.specs.Streams.{Stream}
+use Rattle.fl_stream.specs.Streams.{HoldsText, Stream}
 use Rattle.fl_transport.specs.Streams.{Streams}
 use Rattle.lockd_serve.proofs.behind.resume.Goals as goal
 
@@ -15,28 +15,27 @@ returns-clause-resumed g c =
     let base : List Line = point.resumed.past.items ++ told_lines point.resumed.missing in
     let same : c.resume-desk.result.lines ≡ base =
     c.resume-desk.ensures.lines ∙ c.in_ok-journal.ensures ∙ ap (λ m. point.resumed.past.items ++ told_lines m) c.as_slice.ensures in
-    let all : c.into_stream.result.lines ≡ c.in-Some.journal.lines = ap (λ s. s.lines) c.into_stream.ensures in
-    let noted : c.into_stream.result.noted ≡ c.in-Some.journal.noted = ap (λ s. s.noted) c.into_stream.ensures in
+    let all : c.into_stream.result.lines ≡ c.in-Some.journal.lines = ap (λ s. s.lines) c.into_stream.ensures.value in
+    let noted : c.into_stream.result.noted ≡ c.in-Some.journal.noted = ap (λ s. s.noted) c.into_stream.ensures.value in
     let streams : Streams = record {
       left = g.R.Read.remaining c.args.r.now;
       left_now = g.R.Read.remaining c.resume_session.new.r;
       held = g.W.Write.contents c.args.w.now;
       held_now = g.W.Write.contents c.resume_session.new.w;
     } in
-    let more : List Line = c.finish-file.ensures.there.0 in
-    let grows : IsPrefix c.in-Some.journal.noted more = subst (λ n. IsPrefix n more) noted c.finish-file.ensures.there.1 in
     let served = served_as (λ (j : Stream). j.lines) (λ (j : Stream). j.noted) point.rules c.resume-desk.result.lines base
-    streams ended.broken ended.recorded c.in-Some.journal c.into_stream.result.lines more c.in-Some.is same all grows
+    streams ended.broken ended.recorded c.in-Some.journal c.into_stream.result.lines c.in-Some.is same all
     ended.ensures.served in
     record {
       lines = c.into_stream.result.lines;
-      stored = more;
+      stored = c.in-Some.journal.noted;
       served = served.served;
       legal = subst (IsLegal point.rules) (sym all)
           (so_of (λ (j : Stream). IsLegal point.rules j.lines) ended.recorded.journal c.in-Some.journal c.in-Some.is
           ended.ensures.legal);
       begun = c.finish-file.ensures.begun;
       whole = c.finish-file.ensures.whole;
-      there = c.finish-file.ensures.there.2;
+      there = subst (HoldsText _ _) noted c.finish-file.ensures.there;
+      front = subst (IsPrefix c.in-Some.journal.noted) (sym all) c.into_stream.ensures.front;
       ahead = served.ahead;
     }
