@@ -2,5 +2,6 @@ pub mod Behind
 pub mod Ending
 pub mod Inside
 pub mod Resumed
+pub mod Said
 pub mod Served
 pub mod Unserved

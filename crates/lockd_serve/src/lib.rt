@@ -8,8 +8,9 @@
 //! `resumed_from` reads a trace by any reader, and gives the lines behind which a server goes on. `resume_stream`
 //! serves a session behind them, over any reader and two writers, the client's and the trace's file. It says the same
 //! of one session, and what the file has of its lines. A kill is a reader and writers that fail from some call on, so
-//! what it says of the end is said of each moment of a server. `resume_on` does both with a file and a socket: it locks
-//! the file and cuts it off. Of a file's bytes contracts see nothing either, nor a failure of a reader or a writer.
+//! what it says of the end is said of each moment of a server; `laws` says what the next one reads of its file.
+//! `resume_on` does both with a file and a socket: it locks the file and cuts it off. Of a file's bytes contracts see
+//! nothing either, nor a failure of a reader or a writer.
 //! They let through:
 //! - a `serve_stream` that says `no memory` and serves nobody, or says wrongly that the output failed, or that the
 //!   trace's writer did, then perhaps in place of its own fault;
@@ -41,6 +42,7 @@
 mod ahead;
 mod behind;
 mod ending;
+pub mod laws;
 mod options;
 mod point;
 mod resume_file;
