@@ -1,7 +1,7 @@
 -- What the workers of a session have done together.
 use Rattle.std.proofs.Common.{◌≡◌, ℕ, ◌+◌, Bool, true, false, List, [], ◌∷◌, ◌++◌, All, Option}
 use Rattle.std.proofs.Common.{length, map, sum_by, refl, sym, ap, ◌∙◌, subst, arith, append_assoc}
-use Rattle.std.proofs.Common.{append-nil}
+use Rattle.std.proofs.Common.{◌<◌, ◌≤◌, append-nil, length-append}
 use Rattle.std.specs.Prelude.{◌||◌}
 use Rattle.std.proofs.lemmas.List.{length-map, map-append, nil_from_length}
 use Rattle.std.proofs.lemmas.List.Elements.{All-cons, All-head, All-nil, All-push, All-tail}
@@ -290,6 +290,34 @@ received_as left before now fault told put all goodbye other sent own own_now go
 -- one more behind a list of which all are so
 pub all_pushed : {X : Type 0} (P : X → Type 0) (xs ys : List X) (x : X) → ys ≡ xs ++ x ∷ [] → All P xs → P x → All P ys
 all_pushed P xs ys x is all this = subst (All P) (sym is) (All-push P xs x all this)
+
+-- nothing came yet from a list
+pub none_so_far : {X Y : Type 0} (done : List X) (rest : List Y) → done ≡ [] → length done + length rest ≡ length rest
+none_so_far done rest none = omega (arith, ap length none)
+
+-- one more came from a list
+pub one_so_far : {X Y : Type 0} (done done_now : List X) (x : X) (rest rest_now : List Y) (y : Y) (all : ℕ)
+    → length done + length rest ≡ all → done_now ≡ done ++ x ∷ [] → rest ≡ y ∷ rest_now
+    → length done_now + length rest_now ≡ all
+one_so_far done done_now x rest rest_now y all so_far is_done is_rest =
+    omega (arith, so_far, ap length is_done ∙ length-append done (x ∷ []), ap length is_rest)
+
+-- if one more comes from a list, what came is shorter than all
+pub still_fewer : {X Y : Type 0} (done : List X) (rest rest_now : List Y) (y : Y) (all : ℕ)
+    → length done + length rest ≡ all → rest ≡ y ∷ rest_now → length done < all
+still_fewer done rest rest_now y all so_far is_rest = omega (arith, so_far, ap length is_rest)
+
+-- room for all is room for one more of them
+pub room_for_one : (m n k all a b c : ℕ) → m < all → n < all → k < all → (all ≤ a) × (all < b) × (all ≤ c)
+    → (m < a) × (n < b) × (k < c)
+room_for_one m n k all a b c first second third room =
+    (omega (arith, first, room.0), omega (arith, second, room.1), omega (arith, third, room.2))
+
+-- room for all stays where no capacity changes
+pub room_stays : (all a b c a_now b_now c_now : ℕ) → (all ≤ a) × (all < b) × (all ≤ c)
+    → (a_now ≡ a) × (b_now ≡ b) × (c_now ≡ c) → (all ≤ a_now) × (all < b_now) × (all ≤ c_now)
+room_stays all a b c a_now b_now c_now room same =
+    (omega (arith, room.0, same.0), omega (arith, room.1, same.1), omega (arith, room.2, same.2))
 
 -- the first and the others of a list of which all are so
 pub first_and_rest : {X : Type 0} (P : X → Type 0) (xs rest : List X) (x : X) → xs ≡ x ∷ rest → All P xs

@@ -73,7 +73,7 @@ impl<L: BoardName, N: WriterName> Promise<Worked<L, N>> for AtSeat {
 }
 
 /// What a worker gives back: its post, its end of the intake, and what went wrong with its orders.
-type Worked<L, N> = (Post<Seat<L>, N>, TakeEnd, Failures);
+pub(crate) type Worked<L, N> = (Post<Seat<L>, N>, TakeEnd, Failures);
 
 /// A worker that was started.
 pub(crate) type Thread<L, N> = PromisedHandle<Worked<L, N>, AtSeat>;
@@ -322,12 +322,8 @@ fn joined<L: BoardName, N: WriterName, R: Threads>(
     let mut back = back;
     back.failures = Failures::none();
     for thread in threads {
-        let (post, end, failures) = thread.join(rt);
-        let Post { seat, own } = post;
-        back.seats.push_reserved(seat);
-        back.appenders.push_reserved(own);
-        back.ends.push_reserved(end);
-        back.failures = back.failures.or(failures);
+        let worked = thread.join(rt);
+        back.add(worked);
     }
     back
 }

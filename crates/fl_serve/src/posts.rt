@@ -1,10 +1,10 @@
 //! What the workers of a session get, and what they give back.
 
-ghost use Rattle.std.specs.Prelude.{◌≡◌, ◌≤◌, ◌<◌, ◌+◌, [], All, IfOk, length, map, vec_capacity};
+ghost use Rattle.std.specs.Prelude.{◌≡◌, ◌≤◌, ◌<◌, ◌+◌, ◌++◌, ◌∷◌, ◌||◌, [], All, IfOk, length, map, vec_capacity};
 ghost use Rattle.fl_serve.specs.Inside.Working.{IsIdle, IsUnused};
 ghost use Rattle.fl_workers.specs.Room.{HasBatchFor};
 
-use crate::pool::Thread;
+use crate::pool::{Thread, Worked};
 use fl_board::{BoardName, Seat};
 use fl_core::Rules;
 use fl_intake::TakeEnd;
@@ -43,6 +43,28 @@ impl<L: BoardName, N: WriterName> Back<L, N> {
             ends: Vec::with_capacity(alloc, count)?,
             failures: Failures::none(),
         })
+    }
+
+    /// One worker more came back.
+    pub(crate) fn add(&mut self, worked: Worked<L, N>)
+        requires room { (length self.old.seats.items < vec_capacity self.old.seats)
+            × (length self.old.appenders.items < vec_capacity self.old.appenders)
+            × (length self.old.ends.items < vec_capacity self.old.ends) }
+        ensures seats { self.new.seats.items ≡ self.old.seats.items ++ worked.0.seat ∷ [] }
+        ensures appenders { self.new.appenders.items ≡ self.old.appenders.items ++ worked.0.own ∷ [] }
+        ensures ends { self.new.ends.items ≡ self.old.ends.items ++ worked.1 ∷ [] }
+        ensures refused { self.new.failures.refused ≡ (self.old.failures.refused || worked.2.refused) }
+        ensures lost { self.new.failures.lost ≡ (self.old.failures.lost || worked.2.lost) }
+        ensures room { (vec_capacity self.new.seats ≡ vec_capacity self.old.seats)
+            × (vec_capacity self.new.appenders ≡ vec_capacity self.old.appenders)
+            × (vec_capacity self.new.ends ≡ vec_capacity self.old.ends) }
+    {
+        let (post, end, failures) = worked;
+        let Post { seat, own } = post;
+        self.seats.push_reserved(seat);
+        self.appenders.push_reserved(own);
+        self.ends.push_reserved(end);
+        self.failures = self.failures.or(failures);
     }
 }
 

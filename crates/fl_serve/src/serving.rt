@@ -11,7 +11,7 @@ ghost use Rattle.fl_workers.specs.Room.{HasRoomFor};
 
 use crate::finishing::{finish, unstarted};
 use crate::pool::WorkerPool;
-use crate::posts::Posts;
+use crate::posts::{Back, Posts};
 use crate::stock::{Stock, opened};
 use fl_board::{BoardName, OpenFault};
 use fl_core::Rules;
@@ -21,7 +21,7 @@ use fl_intake::PutEnd;
 use fl_log::{Appender, Ask, FreshLog};
 use fl_session::{Done, Recorded};
 use fl_transport::{Fault, Inbox};
-use fl_workers::{Gate, ReplyEntry, ReplyRoom, SharedSender, WriterName};
+use fl_workers::{Gate, Received, ReplyEntry, ReplyRoom, SharedSender, WriterName};
 use std::alloc::Global;
 use std::io::{Read, Write};
 use std::marker::Brand;
@@ -237,10 +237,21 @@ fn run_pool<
 {
     let (back, received) = pool.run(r, inbox, put, posts, own);
     if received.fault == Some(Fault::NoMemory) {
-        let WorkerPool { sender, .. } = pool;
-        return unstarted(alloc, sender.into_inner());
+        return unstarted(alloc, only_sender(pool, back, received, left));
     }
     finish(alloc, pool, back, received, left)
+}
+
+// The sender of a session of which a worker couldn't be started. All else is dropped: here, and not where the session is
+// run, so that few steps have many values.
+fn only_sender<'w, L: BoardName, N: WriterName, R: Wait, W: Write, G, J: Journal + Drop>(
+    pool: WorkerPool<'_, 'w, L, N, R, W, G, J>,
+    _back: Back<L, N>,
+    _received: Received<N>,
+    _left: ReplyRoom,
+) -> SharedSender<'w, W, N> {
+    let WorkerPool { sender, .. } = pool;
+    sender.into_inner()
 }
 
 // Why a session has no board.

@@ -35,9 +35,9 @@ impl<L: BoardName, N: WriterName> Stock<L, N> {
         requires workers { (0 < workers) × (workers ≤ 16) }
         ensures { IfOk result (IsStocked rules workers) }
     {
-        let left = ReplyRoom::new(alloc, rules)?;
         let inbox = Inbox::new(alloc)?;
         let replies = ReplyBuffer::new(alloc)?;
+        let left = ReplyRoom::new(alloc, rules)?;
         let (intake, put, ends) = Intake::new(alloc, workers)?;
         let posts = Posts::with_room(alloc, workers, rules, ends)?;
         Ok(Stock {
@@ -72,7 +72,7 @@ pub(crate) fn opened<L: BoardName, N: WriterName, R: Wait + Drop + Copy, J: Jour
     ensures fresh { IfOk result (λ made. All IsUnused made.1.items) }
     ensures stock { IfOk result (λ made. IsStocked L.rules workers made.2) }
 {
-    let stock = Stock::<L, N>::new(alloc, workers, rules)?;
     let (board, seats) = Board::<L, R, J>::over(alloc, rt, journal, blank, log, workers, rules)?;
+    let stock = Stock::<L, N>::new(alloc, workers, rules)?;
     Ok((board, seats, stock))
 }

@@ -10,7 +10,7 @@ returns-then-eq-clause-recorded g c =
     let none : c.run-back.result.1.fault ≡ Some NoMemory = search rules in
     let unread = c.run-back.ensures.ran.unread none in
     let it = c.unstarted.ensures in
-    unstarted_recorded _ _ _ _ _ _ _ _ c.into_inner.result.log it.sent.0 _ it.nothing it.fault (it.read _ _ unread) it.sent.1
+    unstarted_recorded _ _ _ _ _ _ _ _ c.only_sender.result.log it.sent.0 _ it.nothing it.fault (it.read _ _ unread) it.sent.1
     unread it.unwritten
 
 pub finish-requires-clause-all : goal.finish-requires-clause-all
