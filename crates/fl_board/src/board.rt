@@ -1,7 +1,7 @@
 //! The board: workers with seats hand in orders under one lock, and look without it. One history of all orders is kept.
 
-ghost use Rattle.std.specs.Prelude.{◌≡◌, ◌<◌, ◌≤◌, ◌+◌, ◌↔◌, ◌⊎◌, [], ◌∷◌, true, Err, List, All, IfOk, IfErr, IfSome};
-ghost use Rattle.std.specs.Prelude.{IsSome, OnOk, OnErr, length, map, sum_by};
+ghost use Rattle.std.specs.Prelude.{◌≡◌, ◌<◌, ◌≤◌, ◌+◌, ◌↔◌, ◌⊎◌, [], ◌∷◌, true, Err, List, All, IfOk, IfErr};
+ghost use Rattle.std.specs.Prelude.{OnOk, OnErr, length, map, sum_by};
 ghost use Rattle.std.specs.List.{range_with_len};
 ghost use mathlib.Core.List.{IsPrefix};
 ghost use Rattle.fl_board.specs.Inside.Recorded.{all_stored};
@@ -13,7 +13,7 @@ ghost use Rattle.fl_desk.specs.Legal.{IsLegal, LeavesLawful, orders_asked};
 ghost use Rattle.fl_order.specs.Order.{only_reads};
 
 use crate::seat::Seat;
-use crate::shared::{Shared, are_apart};
+use crate::shared::Shared;
 use fl_core::{Rules, Tolds};
 use fl_desk::{HandFault, NoView, Outgoing, ToldLists};
 use fl_history::{History, Journal, Lines};
@@ -163,16 +163,15 @@ impl<L: BoardName, R: Wait + Drop + Copy, J: Journal> Board<L, R, J> {
         ensures room { tolds.new.room ≡ tolds.old.room }
         ensures refused { OnErr result ((seat.new ≡ seat.old) × (tolds.new ≡ tolds.old)) }
     {
-        let (taken, stored) = {
+        let stored = {
             let mut shared = self.shared.lock(rt);
-            let taken = shared.hand_in(seat, order, tolds);
-            let stored = taken.is_err() || shared.store_if_due(seat);
-            (taken, stored)
+            shared.hand_in(seat, order, tolds)?;
+            shared.store_if_due(seat)
         };
         if !stored {
             self.wait_until_stored(rt, seat);
         }
-        taken
+        Ok(())
     }
 
     /// Takes orders of the seat's worker one after another under one lock, each as `hand_in` does, and then publishes
@@ -316,7 +315,7 @@ impl<L: BoardName, R: Wait + Drop + Copy, J: Journal> Board<L, R, J> {
             workers,
         } = self;
         let shared = shared.into_inner();
-        if !shared.begins_with(&seats) || !are_apart(&seats) {
+        if !shared.can_close(&seats) {
             let board = Board {
                 shared: Mutex::new(shared),
                 alloc,
@@ -325,9 +324,7 @@ impl<L: BoardName, R: Wait + Drop + Copy, J: Journal> Board<L, R, J> {
             };
             return Err(CloseFault::NoView { board, seats });
         }
-        let Some(mut whole) = merged(seats) else {
-            unreachable!();
-        };
+        let mut whole = merged(seats);
         Ok(shared.into_journal(&mut whole))
     }
 }
@@ -416,17 +413,20 @@ fn seats_of<L: BoardName, R: Wait + Drop + Copy>(
 }
 
 // The shares of all seats as one.
-fn merged<L: BoardName>(seats: Vec<Seat<L>>) -> Option<Share<L>>
-    requires { 0 < L.parts }
-    ensures some { 0 < length seats.items → IsSome result }
-    ensures parts { IfSome result (λ all. (all.parts ≡ length seats.items) × (all.parts ≤ L.parts)) }
-    ensures amount { IfSome result (λ all. all.amount ≡ sum_by (λ seat. seat.count) seats.items) }
+fn merged<L: BoardName>(seats: Vec<Seat<L>>) -> Share<L>
+    requires parts { 0 < L.parts }
+    requires some { 0 < length seats.items }
+    ensures parts { (result.parts ≡ length seats.items) × (result.parts ≤ L.parts) }
+    ensures amount { result.amount ≡ sum_by (λ seat. seat.count) seats.items }
 {
     let mut seats = seats;
-    let mut all = seats.pop()?.into_share();
+    let Some(last) = seats.pop() else {
+        unreachable!();
+    };
+    let mut all = last.into_share();
     while let Some(seat) = seats.pop() {
         let share = seat.into_share();
         all.merge(share);
     }
-    Some(all)
+    all
 }

@@ -3,7 +3,7 @@
 ghost use Rattle.std.specs.Prelude.{◌≡◌, ◌<◌, ◌≤◌, ◌^◌, ◌+◌, ◌++◌, ◌∷◌, ◌⊎◌, [], Err, None, Some, IsSome, length};
 ghost use Rattle.std.specs.Prelude.{IfOk, IfSome, OnOk, OnErr, IsTrue, MatchResult, List};
 ghost use mathlib.Core.List.{IsPrefix};
-ghost use Rattle.fl_board.specs.Inside.Asks.{history_of};
+ghost use Rattle.fl_board.specs.Inside.Asks.{HasMostOf, history_of};
 ghost use Rattle.fl_board.specs.Shown.{AreHandedIn, IsHandedIn};
 ghost use Rattle.fl_core.specs.Tolds.{HasRoom};
 ghost use Rattle.fl_desk.specs.Legal.{IsLegal, LeavesLawful, orders_asked};
@@ -117,19 +117,10 @@ impl<L: BoardName, R: Wait + Drop + Copy, J: Journal> Record<L, R, J> {
             writer,
         } = self;
         asks_lead();
-        if desk.ready().is_err() {
-            return Err(HandFault::NoMemory);
-        }
-        if !seat.begins(all) {
-            return Err(HandFault::NoView);
-        }
-        let before = all.again();
-        let Ok(()) = added(log, all, seat.worker, order) else {
-            return Err(HandFault::NoView);
-        };
-        if desk.take(seat.worker, order, tolds).is_err() {
+        let before = entered(desk, log, all, seat, order)?;
+        let Ok(()) = desk.take(seat.worker, order, tolds) else {
             unreachable!();
-        }
+        };
         book.add(&mut seat.share, 1);
         writer.add(order, tolds.own_alone(order), &before, all);
         seat.handed = all.again();
@@ -235,6 +226,36 @@ impl<L: BoardName, R: Wait + Drop + Copy, J: Journal> Record<L, R, J> {
         book.audit(whole);
         desk.into_journal()
     }
+}
+
+// Makes room for an order's lines, and adds it to the log, which has to begin with all that its worker handed in and
+// was shown. It gives what had been handed in before.
+fn entered<L: BoardName, J: Journal>(
+    desk: &mut Desk<J>,
+    log: &Log<L, Ask>,
+    all: &mut Beginning<L, Ask>,
+    seat: &Seat<L>,
+    order: &Order,
+) -> Result<Beginning<L, Ask>, HandFault>
+    ensures same { (desk.new.lines ≡ desk.old.lines) × (desk.new.present ≡ desk.old.present) }
+    ensures stored { IsPrefix desk.old.stored desk.new.stored }
+    ensures room { OnOk result (desk.old.present.rules.parked + 2 ≤ desk.new.room) }
+    ensures most { OnOk result (HasMostOf (history_of L.rules all.old) seat.now) }
+    ensures before { IfOk result (λ before. before ≡ all.old) }
+    ensures added { OnOk result (all.new ≡ all.old ++ ask_of seat.now.worker order.now ∷ []) }
+    ensures refused { OnErr result (all.new ≡ all.old) }
+{
+    if desk.ready().is_err() {
+        return Err(HandFault::NoMemory);
+    }
+    if !seat.begins(all) {
+        return Err(HandFault::NoView);
+    }
+    let before = all.again();
+    let Ok(()) = added(log, all, seat.worker, order) else {
+        return Err(HandFault::NoView);
+    };
+    Ok(before)
 }
 
 // Why an order isn't in the log.

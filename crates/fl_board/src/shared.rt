@@ -5,7 +5,7 @@ ghost use Rattle.std.specs.Prelude.{IfOk, OnOk, OnErr};
 ghost use mathlib.Core.List.{IsPrefix};
 ghost use Rattle.fl_board.specs.Inside.Asks.{HasMostOf, history_of};
 ghost use Rattle.fl_board.specs.Inside.Recorded.{all_stored};
-ghost use Rattle.fl_board.specs.Refused.{FallsShort};
+ghost use Rattle.fl_board.specs.Refused.{CantClose, FallsShort};
 ghost use Rattle.fl_board.specs.Seats.{AreApart};
 ghost use Rattle.fl_board.specs.Shown.{AreHandedIn, HaveMet, IsHandedIn, KeepsHanded};
 ghost use Rattle.fl_core.specs.Tolds.{HasRoom};
@@ -166,15 +166,19 @@ impl<L: BoardName, R: Wait + Drop + Copy, J: Journal> Shared<L, R, J> {
         Ok(())
     }
 
-    /// Whether the history begins with all that was handed in and shown through each seat, and with what counts as
-    /// stored for it, which the journal has to have stored.
-    pub(crate) fn begins_with(&self, seats: &[Seat<L>]) -> bool
+    /// Whether no two seats are of one worker, and the history begins with all that was handed in and shown through
+    /// each, and with what counts as stored for it, which the journal has to have stored.
+    pub(crate) fn can_close(&self, seats: &[Seat<L>]) -> bool
         ensures most { result ≡ true → All (λ seat. HasMostOf (history_of L.rules self.now.asks) seat) seats.now }
         ensures stored { result ≡ true
             → All (λ seat. IsPrefix seat.stored (history_of L.rules self.now.stored)) seats.now }
-        ensures short { result ≡ false → FallsShort L.rules seats.now }
+        ensures apart { result ≡ true → AreApart seats.now }
+        ensures cant { result ≡ false → CantClose L.rules seats.now }
     {
         asks_lead();
+        if !are_apart(seats) {
+            return false;
+        }
         for seat in seats {
             if !seat.begins(&self.record.all) || !seat.is_stored_in(&self.stored) {
                 return false;
@@ -234,8 +238,8 @@ impl<L: BoardName, R: Wait + Drop + Copy, J: Journal> Shared<L, R, J> {
     }
 }
 
-/// Whether no two seats are of one worker.
-pub(crate) fn are_apart<L: BoardName>(seats: &[Seat<L>]) -> bool
+// Whether no two seats are of one worker.
+fn are_apart<L: BoardName>(seats: &[Seat<L>]) -> bool
     ensures { (result ≡ true) ↔ AreApart seats.now }
 {
     for i in 0..seats.len() {

@@ -1,47 +1,39 @@
-use Rattle.std.proofs.Common.{◌≡◌, ◌∙◌, sym, subst, All, refl, inl, inr, sum_by, List}
+use Rattle.std.proofs.Common.{◌≡◌, ◌∙◌, sym, subst, All, refl, inr, sum_by, List}
 use mathlib.Core.List.{IsPrefix}
 use Rattle.fl_board.specs.Inside.Asks.{HasMostOf, history_of}
-use Rattle.fl_board.specs.Refused.{FallsShort}
+use Rattle.fl_board.specs.Refused.{CantClose}
 use Rattle.fl_board.specs.Seats.{AreApart, Place}
 use Rattle.fl_board.proofs.Counts.{has_all}
 use Rattle.fl_board.proofs.Prefixes.{all_of_another}
 use Rattle.fl_desk.specs.Legal.{orders_asked}
 use Rattle.fl_history.specs.declared.history.Line.{Line}
-use Rattle.fl_board.proofs.board.Board.into_journal.Goals.{then-not-begins_with-via-then-not-begins_with, then-not-begins_with-via-else-not-begins_with+then-not-are_apart}
 use Rattle.fl_board.proofs.board.Board.into_journal.Goals as goal
 
-pub returns-then-not-begins_with-clause-back : goal.returns-then-not-begins_with-clause-back
-returns-then-not-begins_with-clause-back g c =
-    let ours = g.L.BoardName.rules in
-    inr (
-      _,
-      refl,
-      elim c.then-not-begins_with.branch [
-        | then-not-begins_with-via-then-not-begins_with w ↦
-            inl (subst (FallsShort ours) c.deref.ensures.value (w.if-not-begins_with.ensures.short refl))
-        | then-not-begins_with-via-else-not-begins_with+then-not-are_apart w ↦
-            inr (λ apart. cc ((w.if-not-are_apart.ensures).1 (subst AreApart (sym w.deref-else-not-begins_with.ensures.value) apart)))
-      ],
-    )
+pub returns-then-not-can_close-clause-back : goal.returns-then-not-can_close-clause-back
+returns-then-not-can_close-clause-back g c =
+    inr (_, refl, subst (CantClose g.L.BoardName.rules) c.deref.ensures.value (c.if-not-can_close.ensures.cant refl))
+
+pub returns-clause-apart : goal.returns-clause-apart
+returns-clause-apart g c = subst AreApart c.deref.ensures.value (c.if-not-can_close.ensures.apart refl)
 
 pub returns-clause-each : goal.returns-clause-each
 returns-clause-each g c =
     let ours = g.L.BoardName.rules in
     let asks = c.into_inner-shared.result.asks in
     let seats = c.args.seats.items in
-    let apart : AreApart seats = subst AreApart c.deref-else-not-begins_with.ensures.value ((c.if-not-are_apart.ensures).0 refl) in
     let most : All (λ (p : Place). HasMostOf (history_of ours asks) p) seats =
     subst (λ (l : List Place). All (λ (p : Place). HasMostOf (history_of ours asks) p) l) c.deref.ensures.value
-    (c.if-not-begins_with.ensures.most refl) in
+    (c.if-not-can_close.ensures.most refl) in
     let kept = g.J.Journal.lines c.into_journal.result in
     let history = c.into_journal.ensures in
-    let total : orders_asked kept ≡ sum_by (λ (p : Place). p.count) seats = history.counted ∙ c.in-Some.ensures.amount in
-    has_all kept seats apart (subst (λ (l : List Line). All (λ (p : Place). HasMostOf l p) seats) (sym history.lines) most) total
+    let total : orders_asked kept ≡ sum_by (λ (p : Place). p.count) seats = history.counted ∙ c.merged-whole.ensures.amount in
+    has_all kept seats (returns-clause-apart g c) (subst (λ (l : List Line). All (λ (p : Place). HasMostOf l p) seats) (sym history.lines) most)
+    total
 
 pub returns-clause-stored : goal.returns-clause-stored
 returns-clause-stored g c =
     let stored = history_of g.L.BoardName.rules c.into_inner-shared.result.stored in
     all_of_another (λ (p : Place). p.stored) c.args.seats.items stored _
     (subst (λ (l : List Place). All (λ (p : Place). IsPrefix p.stored stored) l) c.deref.ensures.value
-    (c.if-not-begins_with.ensures.stored refl))
+    (c.if-not-can_close.ensures.stored refl))
     c.into_journal.ensures.stored

@@ -1,7 +1,8 @@
-use Rattle.std.proofs.Common.{rules, ◌≡◌, ◌↔◌, ◌+◌, Option, None, Some, IfSome, Result, List, ◌∷◌, [], ◌++◌, refl, ap, sym, ◌∙◌, subst, arith}
+use Rattle.std.proofs.Common.{◌≡◌, ℕ, ◌↔◌, ◌+◌, Option, None, Some, IfSome, Result, List, ◌∷◌, [], ◌++◌, refl, ap, sym, ◌∙◌, subst, arith}
 use Rattle.fl_core.specs.Replies.{own_replies}
-use Rattle.fl_core.specs.State.{Snapshot}
+use Rattle.fl_core.specs.State.{Snapshot, snapshot_of}
 use Rattle.fl_core.specs.Step.{next, replies, replies_in}
+use Rattle.fl_history.specs.declared.history.Line.{Line}
 use Rattle.fl_order.specs.declared.errno.Errno.{Errno}
 use Rattle.fl_order.specs.declared.order.Order.{Order}
 use Rattle.fl_order.specs.declared.told.Answer.{Answer}
@@ -9,6 +10,7 @@ use Rattle.fl_order.specs.declared.told.Told.{Told}
 use Rattle.fl_desk.specs.Legal.{step_lines, orders_asked}
 use Rattle.fl_desk.specs.Replay.{state_after}
 use Rattle.fl_log.specs.declared.ask.Ask.{Ask}
+use Rattle.fl_waiting.specs.declared.rules.Rules.{Rules}
 use Rattle.fl_log.specs.Asks.{present_after}
 use Rattle.fl_board.specs.Inside.Asks.{HasMostOf, history_of}
 use Rattle.fl_board.specs.Seats.{Place}
@@ -25,18 +27,48 @@ alone_of : (order : Order) (found : Option (Option (Result Answer Errno))) (told
 alone_of order None told tolds alone same = tt
 alone_of order (Some reply) told tolds alone same = sym same ∙ (alone reply).0 refl
 
+-- what was added for the worker that contracts see was added for the seat's
+added_by : (was now : List Ask) (order : Order) (seen worker : ℕ) → worker ≡ seen
+    → now ≡ was ++ record { worker = seen; order = order } ∷ [] → now ≡ was ++ record { worker = worker; order = order } ∷ []
+added_by was now order seen worker same added =
+    subst (λ (w : ℕ). now ≡ was ++ record { worker = w; order = order } ∷ []) (sym same) added
+
+-- what the desk told is what the asks so far answer
+answered_as : (ours : Rules) (was : List Ask) (order : Order) (present : Snapshot) (lines : List Line) (told : List Told)
+    → present ≡ present_after ours was → lines ≡ history_of ours was
+    → told ≡ replies_in (state_after present.rules lines) order → (present_after ours was).rules ≡ ours
+    → present_after ours was ≡ snapshot_of (state_after ours (history_of ours was))
+    → told ≡ replies (present_after ours was) order
+answered_as ours was order present lines told there had is same stands =
+    is ∙ (λ i. replies_in (state_after (there i).rules (had i)) order)
+    ∙ ap (λ r. replies_in (state_after r (history_of ours was)) order) same
+    ∙ ap (λ (p : Snapshot). replies p order) (sym stands)
+
+pub add-requires-2-clause-before : goal.add-requires-2-clause-before
+add-requires-2-clause-before g c = c.in_ok-before.ensures.before ∙ sym c.self.invariant.0
+
+pub add-requires-2-clause-next : goal.add-requires-2-clause-next
+add-requires-2-clause-next g c =
+    let ours = g.L.BoardName.rules in
+    let was = c.self.inside.all in
+    let order = c.args.order.now in
+    let worker = c.seat.inside.worker in
+    let ask : Ask = record { worker = worker; order = order } in
+    let all = added_by was _ order _ worker (ap (λ (p : Place). p.worker) c.seat.view_is) c.in_ok-before.ensures.added in
+    ap (present_after ours) all ∙ present_more ours was ask
+    ∙ ap (λ asks. next (present_after ours asks) order) (sym c.in_ok-before.ensures.before)
+
 pub add-requires-2-clause-alone : goal.add-requires-2-clause-alone
 add-requires-2-clause-alone g c =
     let ours = g.L.BoardName.rules in
     let was = c.self.inside.all in
     let order = c.args.order.now in
-    let told : c.take.new.tolds.told ≡ replies_in (state_after (present_after ours was).rules (history_of ours was)) order = search rules in
+    let present = c.entered.ensures.same.1 ∙ c.self.invariant.2 in
+    let lines = c.entered.ensures.same.0 ∙ c.self.invariant.1 in
     let leads = c.asks_lead.ensures in
-    let answered : c.take.new.tolds.told ≡ replies (present_after ours was) order =
-    told ∙ ap (λ r. replies_in (state_after r (history_of ours was)) order) (leads.rules ours was)
-    ∙ ap (λ (p : Snapshot). replies p order) (sym (leads.stands ours was)) in
-    alone_of order c.own_alone.result c.take.new.tolds.told (replies (present_after ours c.again-before.result) order) c.own_alone.ensures
-    (answered ∙ ap (λ asks. replies (present_after ours asks) order) (sym c.again-before.ensures))
+    let answered = answered_as ours was order _ _ _ present lines c.in-Ok.ensures.replies (leads.rules ours was) (leads.stands ours was) in
+    alone_of order c.own_alone.result c.take.new.tolds.told (replies (present_after ours c.in_ok-before.before) order) c.own_alone.ensures
+    (answered ∙ ap (λ asks. replies (present_after ours asks) order) (sym c.in_ok-before.ensures.before))
 
 pub invariant_of-self-2 : goal.invariant_of-self-2
 invariant_of-self-2 g c =
@@ -45,19 +77,17 @@ invariant_of-self-2 g c =
     let order = c.args.order.now in
     let worker = c.seat.inside.worker in
     let ask : Ask = record { worker = worker; order = order } in
-    let all : c.added.new.all ≡ was ++ ask ∷ [] = c.in-Ok.ensures.added in
-    let taken : c.take.new.self.lines ≡ history_of ours was ++ step_lines worker order c.take.new.tolds.told = search rules in
-    let stepped : c.take.new.self.present ≡ next (present_after ours was) order = search rules in
-    let told : c.take.new.tolds.told ≡ replies_in (state_after (present_after ours was).rules (history_of ours was)) order = search rules in
-    let asks : c.add-2.new.self.asks ≡ c.added.new.all = search rules in
+    let all = added_by was _ order _ worker (ap (λ (p : Place). p.worker) c.seat.view_is) c.in_ok-before.ensures.added in
+    let present = c.entered.ensures.same.1 ∙ c.self.invariant.2 in
+    let lines = c.entered.ensures.same.0 ∙ c.self.invariant.1 in
     let leads = c.asks_lead.ensures in
-    let answered : c.take.new.tolds.told ≡ replies (present_after ours was) order =
-    told ∙ ap (λ r. replies_in (state_after r (history_of ours was)) order) (leads.rules ours was)
-    ∙ ap (λ (p : Snapshot). replies p order) (sym (leads.stands ours was)) in (
-      asks,
+    let answered = answered_as ours was order _ _ _ present lines c.in-Ok.ensures.replies (leads.rules ours was) (leads.stands ours was) in
+    let taken : c.take.new.self.lines ≡ history_of ours was ++ step_lines worker order c.take.new.tolds.told =
+    c.in-Ok.ensures.lines ∙ ap (λ l. l ++ step_lines worker order c.take.new.tolds.told) lines in (
+      c.add-2.ensures.asks,
       taken ∙ ap (λ t. history_of ours was ++ step_lines worker order t) answered ∙ sym (history_more ours was ask)
           ∙ ap (history_of ours) (sym all),
-      stepped ∙ sym (present_more ours was ask) ∙ ap (present_after ours) (sym all),
+      c.in-Ok.ensures.next ∙ ap (λ (p : Snapshot). next p order) present ∙ sym (present_more ours was ask) ∙ ap (present_after ours) (sym all),
       c.add.ensures.total ∙ ap (λ n. n + 1) (c.self.invariant.3 ∙ ap orders_asked c.self.invariant.1)
           ∙ sym (ap orders_asked taken ∙ step_asks_one_order (history_of ours was) worker order c.take.new.tolds.told),
     )
@@ -69,8 +99,8 @@ invariant_of-seat g c =
     let order = c.args.order.now in
     let worker = c.seat.inside.worker in
     let ask : Ask = record { worker = worker; order = order } in
-    let added : c.again.result ≡ was ++ ask ∷ [] = c.again.ensures ∙ c.in-Ok.ensures.added in
-    let most = subst (λ (p : Place). HasMostOf (history_of ours was) p) (sym c.seat.view_is) (c.if-not-begins.ensures.most refl) in
+    let added : c.again.result ≡ was ++ ask ∷ [] = c.again.ensures ∙ added_by was _ order _ worker (ap (λ (p : Place). p.worker) c.seat.view_is) c.in_ok-before.ensures.added in
+    let most = subst (λ (p : Place). HasMostOf (history_of ours was) p) (sym c.seat.view_is) (c.in_ok-before.ensures.most) in
     let more : orders_by worker (history_of ours c.again.result) ≡ orders_by worker (history_of ours was) + 1 =
     ap (λ asks. orders_by worker (history_of ours asks)) added ∙ ap (orders_by worker) (history_more ours was ask)
     ∙ one_more_by worker (history_of ours was) order (replies (present_after ours was) order) in
@@ -79,7 +109,7 @@ invariant_of-seat g c =
 pub returns-clause-stored : goal.returns-clause-stored
 returns-clause-stored g c =
     rw (← c.self.view_is)
-    (of_another c.self.inside.desk.stored c.ready.new.self.stored c.take.new.self.stored c.ready.ensures.stored c.take.ensures.stored)
+    (of_another c.self.inside.desk.stored c.entered.new.desk.stored c.take.new.self.stored c.entered.ensures.stored c.take.ensures.stored)
 
 pub returns-clause-handed : goal.returns-clause-handed
 returns-clause-handed g c =
@@ -88,13 +118,12 @@ returns-clause-handed g c =
     let order = c.args.order.now in
     let worker = c.seat.inside.worker in
     let ask : Ask = record { worker = worker; order = order } in
-    let added : c.again.result ≡ was ++ ask ∷ [] = c.again.ensures ∙ c.in-Ok.ensures.added in
-    let told : c.take.new.tolds.told ≡ replies_in (state_after (present_after ours was).rules (history_of ours was)) order = search rules in
+    let added : c.again.result ≡ was ++ ask ∷ [] = c.again.ensures ∙ added_by was _ order _ worker (ap (λ (p : Place). p.worker) c.seat.view_is) c.in_ok-before.ensures.added in
+    let present = c.entered.ensures.same.1 ∙ c.self.invariant.2 in
+    let lines = c.entered.ensures.same.0 ∙ c.self.invariant.1 in
     let leads = c.asks_lead.ensures in
-    let answered : c.take.new.tolds.told ≡ replies (present_after ours was) order =
-    told ∙ ap (λ r. replies_in (state_after r (history_of ours was)) order) (leads.rules ours was)
-    ∙ ap (λ (p : Snapshot). replies p order) (sym (leads.stands ours was)) in
-    let most = subst (λ (p : Place). HasMostOf (history_of ours was) p) (sym c.seat.view_is) (c.if-not-begins.ensures.most refl) in
+    let answered = answered_as ours was order _ _ _ present lines c.in-Ok.ensures.replies (leads.rules ours was) (leads.stands ours was) in
+    let most = subst (λ (p : Place). HasMostOf (history_of ours was) p) (sym c.seat.view_is) (c.in_ok-before.ensures.most) in
     rw (← c.seat.view_is) (record {
       before = history_of ours was;
       handed = ap (history_of ours) added ∙ history_more ours was ask

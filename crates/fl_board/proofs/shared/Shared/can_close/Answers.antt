@@ -1,4 +1,4 @@
-use Rattle.std.proofs.Common.{rules, ◌≡◌, ◌<◌, length, All, arith, subst, List}
+use Rattle.std.proofs.Common.{rules, ◌≡◌, ◌<◌, length, All, arith, refl, inl, inr, subst, List}
 use Rattle.std.proofs.Math.ListN.{get_or}
 use Rattle.std.proofs.lemmas.List.{take_more, take_all}
 use Rattle.std.proofs.lemmas.List.Elements.{All-push}
@@ -6,8 +6,8 @@ use mathlib.Core.List.{IsPrefix}
 use Rattle.fl_board.proofs.Refusing.{short_at}
 use Rattle.fl_board.specs.Inside.Asks.{HasMostOf, history_of}
 use Rattle.fl_board.specs.Seats.{Place}
-use Rattle.fl_board.proofs.shared.Shared.begins_with.Goals.{then-not-begins-via-then-not-begins, then-not-begins-via-else-not-begins+then-not-is_stored_in}
-use Rattle.fl_board.proofs.shared.Shared.begins_with.Goals as goal
+use Rattle.fl_board.proofs.shared.Shared.can_close.Goals.{then-not-begins-via-then-not-begins, then-not-begins-via-else-not-begins+then-not-is_stored_in}
+use Rattle.fl_board.proofs.shared.Shared.can_close.Goals as goal
 
 pub loop-seat-preserved : goal.loop-seat-preserved
 loop-seat-preserved g c =
@@ -32,8 +32,14 @@ returns-clause-stored g c = λ t.
     subst (λ (l : List Place). All (λ x. IsPrefix x.stored (history_of g.L.BoardName.rules c.args.self.now.stored)) l)
     (take_all c.loop-seat.seat-index c.args.seats.now (omega (arith, c.loop-seat-test.false))) c.loop-seat.invariant.stored
 
-pub returns-then-not-begins-clause-short : goal.returns-then-not-begins-clause-short
-returns-then-not-begins-clause-short g c = λ f.
+pub returns-clause-apart : goal.returns-clause-apart
+returns-clause-apart g c = λ t. (c.if-not-are_apart.ensures).0 refl
+
+pub returns-then-not-are_apart-clause-cant : goal.returns-then-not-are_apart-clause-cant
+returns-then-not-are_apart-clause-cant g c = λ f. inr (λ apart. cc ((c.if-not-are_apart.ensures).1 apart))
+
+pub returns-then-not-begins-clause-cant : goal.returns-then-not-begins-clause-cant
+returns-then-not-begins-clause-cant g c = λ f.
     let ours = g.L.BoardName.rules in
     let seats = c.args.seats.now in
     let i = c.loop-seat.seat-index in
@@ -41,8 +47,8 @@ returns-then-not-begins-clause-short g c = λ f.
     let lt : i < length seats = search rules in
     let is : get_or seats i seat ≡ seat = search rules in
     let legal = c.asks_lead.ensures.legal ours in
-    elim c.then-not-begins.branch [
+    inl (elim c.then-not-begins.branch [
       | then-not-begins-via-then-not-begins w ↦ short_at ours _ seats i seat (legal _) lt is w.if-not-begins.ensures.short
       | then-not-begins-via-else-not-begins+then-not-is_stored_in w ↦
           short_at ours _ seats i seat (legal _) lt is (λ begins. w.if-not-is_stored_in.ensures.1 begins.stored)
-    ]
+    ])
