@@ -9,6 +9,7 @@ use lockd_commands::{
     script_on,
 };
 use std::io;
+use std::io::{ErrorKind, Write};
 use std::path::Path;
 
 // What is read, in words.
@@ -21,10 +22,14 @@ pub(crate) fn script(host: Host<'_>, rules: Rules) -> Status {
     let mut output = Noting::new(io::writer(rt));
     let mut faults = rt.stderr();
     let status = script_on(rt.alloc(), rules, &mut input, &mut output, &mut faults);
-    if host.verbose {
-        explain_streams(&mut faults, status, input.input().failed(), output.failed());
-        explain_script(&mut faults, status, INPUT, input.text());
-    }
+    explain_failed(
+        host,
+        &mut faults,
+        status,
+        input.input().failed(),
+        output.failed(),
+    );
+    explain_script(&mut faults, status, INPUT, input.text());
     status
 }
 
@@ -45,10 +50,8 @@ pub(crate) fn check(host: Host<'_>, rules: Rules, tells_quiet: bool, cut: bool) 
         &mut faults,
         &mut details,
     );
-    if host.verbose {
-        explain_streams(&mut faults, status, input.failed(), output.failed());
-        explain_trace(&mut faults, alloc, status, INPUT, &details);
-    }
+    explain_failed(host, &mut faults, status, input.failed(), output.failed());
+    explain_details(host, &mut faults, status, &details);
     status
 }
 
@@ -84,10 +87,8 @@ pub(crate) fn locks(
         &mut faults,
         &mut details,
     );
-    if host.verbose {
-        explain_streams(&mut faults, status, input.failed(), output.failed());
-        explain_trace(&mut faults, alloc, status, INPUT, &details);
-    }
+    explain_failed(host, &mut faults, status, input.failed(), output.failed());
+    explain_details(host, &mut faults, status, &details);
     status
 }
 
@@ -98,10 +99,14 @@ pub(crate) fn bytes(host: Host<'_>, rules: Rules) -> Status {
     let mut output = Noting::new(io::writer(rt));
     let mut faults = rt.stderr();
     let status = bytes_on(rt.alloc(), rules, &mut input, &mut output, &mut faults);
-    if host.verbose {
-        explain_streams(&mut faults, status, input.input().failed(), output.failed());
-        explain_hex(&mut faults, status, INPUT, input.text());
-    }
+    explain_failed(
+        host,
+        &mut faults,
+        status,
+        input.input().failed(),
+        output.failed(),
+    );
+    explain_hex(&mut faults, status, INPUT, input.text());
     status
 }
 
@@ -122,12 +127,37 @@ pub(crate) fn drive(host: Host<'_>, socket: &str) -> Status {
         &mut faults,
         &mut why,
     );
-    if host.verbose {
-        explain_streams(&mut faults, status, input.input().failed(), output.failed());
-        explain_hex(&mut faults, status, INPUT, input.text());
-        if status == Status::Faulted(CommandFault::Connect) {
-            explain_unconnected(&mut faults, rt, socket, &why);
-        }
+    explain_failed(
+        host,
+        &mut faults,
+        status,
+        input.input().failed(),
+        output.failed(),
+    );
+    explain_hex(&mut faults, status, INPUT, input.text());
+    if host.verbose && status == Status::Faulted(CommandFault::Connect) {
+        explain_unconnected(&mut faults, rt, socket, &why);
     }
     status
+}
+
+// Says why standard input or output failed a command, if more is to be said. If not, no text is kept, and so none is
+// explained.
+fn explain_failed<W: Write>(
+    host: Host<'_>,
+    to: &mut W,
+    status: Status,
+    unread: Option<ErrorKind>,
+    unwritten: Option<ErrorKind>,
+) {
+    if host.verbose {
+        explain_streams(to, status, unread, unwritten);
+    }
+}
+
+// Says more of a trace that was read, if more is to be said.
+fn explain_details<W: Write>(host: Host<'_>, to: &mut W, status: Status, details: &Details) {
+    if host.verbose {
+        explain_trace(to, host.rt.alloc(), status, INPUT, details);
+    }
 }
