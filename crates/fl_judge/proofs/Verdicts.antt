@@ -4,7 +4,6 @@ use Rattle.std.proofs.Common.{List, [], ◌∷◌, ◌++◌, length, take, drop,
 use Rattle.std.proofs.Common.{append_assoc, refl, ap, sym, ◌∙◌, subst, arith}
 use Rattle.std.proofs.lemmas.List.{append-nil, length-append, take-append-drop, take-append-le, take_all}
 use Rattle.std.specs.Option.{is_some}
-use Rattle.fl_core.specs.Tolds.{HasRoom}
 use Rattle.fl_desk.specs.Kept.{IsKept}
 use Rattle.fl_desk.specs.Legal.{IsLegal}
 use Rattle.fl_desk.specs.Verdicts.{IsBeginning, DiffersAt}
@@ -12,7 +11,7 @@ use Rattle.fl_history.specs.declared.history.Line.{Line}
 use Rattle.fl_history.specs.declared.history.Line.TheVariants as line
 use Rattle.fl_judge.specs.declared.replay.Replay.{Replay}
 use Rattle.fl_judge.specs.Hearing.{Hearing}
-use Rattle.fl_judge.specs.Inside.Heard.{due_lines, LeadsUpTo, GoesOnAlike, DiffersIn, Stands, IsHeard}
+use Rattle.fl_judge.specs.Inside.Heard.{AreOfOne, due_lines, LeadsUpTo, GoesOnAlike, DiffersIn, Stands, IsHeard}
 use Rattle.fl_judge.proofs.Replays.{left_from, all_told}
 use Rattle.fl_order.specs.declared.told.Told.{Told}
 use Rattle.fl_judge.specs.Present.{told_lines, IsPresent}
@@ -157,7 +156,7 @@ counted heard lines l e = omega (arith, e, length-append lines (l ∷ []))
 
 pub heard_wrong : (lines new : List Line) (l : Line) (heard : ℕ) (before after : Replay) (o : Option ℕ) (b : Bool) → new ≡ lines ++ l ∷ []
     → IsHeard lines heard before o → length lines < 2 ^ 63 → is_some o ≡ false → b ≡ false → GoesOnAlike before l b after
-    → after.core.rules ≡ before.core.rules → HasRoom after.core.rules after.tolds → IsHeard new (heard + 1) after (Some (heard + 1))
+    → after.core.rules ≡ before.core.rules → AreOfOne after.core.rules after.tolds → IsHeard new (heard + 1) after (Some (heard + 1))
 heard_wrong lines new l heard before after o b is h few none wrong goes rules room =
     let up = up_to lines before o none h.stands in
     let w : (ls : List Line) → LeadsUpTo ls before → IsBeginning before.core.rules (ls ++ l ∷ []) → ⊥ = subst (λ b. GoesOnAlike before l b after) wrong goes in
@@ -179,7 +178,7 @@ heard_still lines new l heard r (Some n) is h few some =
 
 pub heard_alike : (lines new : List Line) (l : Line) (heard : ℕ) (before after : Replay) (o : Option ℕ) (b : Bool) → new ≡ lines ++ l ∷ []
     → IsHeard lines heard before o → length lines < 2 ^ 63 → is_some o ≡ false → b ≡ true → GoesOnAlike before l b after
-    → HasRoom after.core.rules after.tolds → IsHeard new (heard + 1) after o
+    → AreOfOne after.core.rules after.tolds → IsHeard new (heard + 1) after o
 heard_alike lines new l heard before after (Some n) b is h few none alike goes room = absurd (cc none)
 heard_alike lines new l heard before after None b is h few none alike goes room =
     let on : (ls : List Line) → LeadsUpTo ls before → LeadsUpTo (ls ++ l ∷ []) after = subst (λ b. GoesOnAlike before l b after) alike goes in

@@ -3,8 +3,7 @@
 ghost use Rattle.std.specs.Prelude.{◌≡◌, ◌↔◌, ◌+◌, ◌^◌, ◌<◌, ◌&&◌, not, true, false, Some, IsSome, IfOk, []};
 ghost use Rattle.std.specs.List.{slice_get};
 ghost use Rattle.fl_history.specs.declared.history.Line.TheVariants as line;
-ghost use Rattle.fl_core.specs.Tolds.{HasRoom};
-ghost use Rattle.fl_judge.specs.Inside.Heard.{LeadsUpTo, GoesOnAlike};
+ghost use Rattle.fl_judge.specs.Inside.Heard.{AreOfOne, LeadsUpTo, GoesOnAlike};
 
 use crate::asking::asks_while_waiting;
 use fl_core::{Core, Rules, Tolds};
@@ -28,7 +27,7 @@ impl Replay {
     pub(crate) fn new(alloc: Global, rules: Rules) -> Result<Replay, NoMemory>
         ensures leads { IfOk result (λ replay. LeadsUpTo [] replay) }
         ensures rules { IfOk result (λ replay. replay.core.rules ≡ rules) }
-        ensures room { IfOk result (λ replay. HasRoom replay.core.rules replay.tolds) }
+        ensures room { IfOk result (λ replay. AreOfOne replay.core.rules replay.tolds) }
     {
         an_order_leads_on();
         Ok(Replay {
@@ -41,11 +40,11 @@ impl Replay {
 
     // One line more, if a legal history may go on by it. What it was told stays, if none does.
     pub(crate) fn take(&mut self, line: &Line) -> bool
-        requires { HasRoom self.old.core.rules self.old.tolds }
+        requires { AreOfOne self.old.core.rules self.old.tolds }
         ensures goes { GoesOnAlike self.old line.now result self.new }
         ensures stays { result ≡ false → self.new ≡ self.old }
         ensures rules { self.new.core.rules ≡ self.old.core.rules }
-        ensures room { HasRoom self.new.core.rules self.new.tolds }
+        ensures room { AreOfOne self.new.core.rules self.new.tolds }
     {
         an_order_leads_on();
         a_legal_history_goes_on_by_orders();

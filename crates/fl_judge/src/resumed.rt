@@ -1,6 +1,6 @@
 //! What a server goes on from after the lines of a trace.
 
-ghost use Rattle.std.specs.Prelude.{◌≡◌};
+ghost use Rattle.std.specs.Prelude.{◌≡◌, ◌≤◌, length};
 
 use fl_core::{Core, Tolds};
 use fl_history::{Line, Past};
@@ -13,6 +13,7 @@ pub struct Missing {
     pub(crate) tolds: Tolds,
     // So many are in the lines.
     pub(crate) told: usize,
+    ghost few: { length tolds.told ≤ 1025 },
 }
 
 impl Model for Missing {
@@ -25,9 +26,10 @@ impl Model for Missing {
 }
 
 impl Missing {
-    /// The replies.
+    /// The replies: as many as one order gives, under any rules, at the most.
     pub fn as_slice(&self) -> &[Told]
-        ensures { result.now ≡ self.now }
+        ensures is { result.now ≡ self.now }
+        ensures few { length result.now ≤ 1025 }
     {
         self.tolds.as_slice().get(self.told..).unwrap_or(&[])
     }

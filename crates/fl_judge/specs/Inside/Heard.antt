@@ -1,8 +1,8 @@
 -- What is always so of a judge, and of the lines that it heard.
-use Rattle.std.specs.Prelude.{◌≡◌, ◌↔◌, ℕ, ◌-◌, ◌^◌, ◌≤◌, Bool, true, false, Option, Some, None, List, [], ◌∷◌, ◌++◌}
+use Rattle.std.specs.Prelude.{◌≡◌, ◌↔◌, ℕ, ◌-◌, ◌+◌, ◌^◌, ◌≤◌, Bool, true, false, Option, Some, None, List, [], ◌∷◌, ◌++◌}
 use Rattle.std.specs.Prelude.{length, take, drop}
 use Rattle.std.specs.List.{slice_get}
-use Rattle.fl_core.specs.Tolds.{HasRoom}
+use Rattle.fl_core.specs.Tolds.{HasRoom, Replies}
 use Rattle.fl_desk.specs.Leading.{LeadsTo}
 use Rattle.fl_desk.specs.Legal.{IsLegal, orders_asked}
 use Rattle.fl_desk.specs.Verdicts.{IsBeginning}
@@ -46,12 +46,16 @@ abbrev pub Stands : List Line → Replay → Option ℕ → Type 0
 Stands lines r None = LeadsUpTo lines r
 Stands lines r (Some n) = DiffersIn r.core.rules lines n
 
--- so many lines were heard, not too many, and that is known of them; there is room for the replies of one order
+-- there is room for all replies that one order can give under these rules, and no more are there
+abbrev pub AreOfOne : Rules → Replies → Type 0
+AreOfOne rules tolds = HasRoom rules tolds × (length tolds.told ≤ rules.parked + 1)
+
+-- so many lines were heard, not too many, and that is known of them; the replies are those of one order
 pub record IsHeard (lines : List Line) (heard : ℕ) (r : Replay) (differs : Option ℕ) : Type 0 where
   pub count : heard ≡ length lines
   pub few : heard ≤ 2 ^ 63
   pub stands : Stands lines r differs
-  pub room : HasRoom r.core.rules r.tolds
+  pub room : AreOfOne r.core.rules r.tolds
 
 -- Where the lines differ, this one stands there, and a replay led up to those before it.
 abbrev pub IsStoppedAt : List Line → Replay → Option ℕ → Option Line → Type 0
