@@ -22,4 +22,4 @@ mod writing;
 
 pub use manner::WhenWriterFails;
 pub use printing::{TraceRoom, Unwritten, write_trace};
-pub use streamed::Streamed;
+pub use streamed::{StreamRoom, Streamed};

@@ -1,7 +1,7 @@
 //! Lines that go to a writer as their text, and wait in memory only until then.
 
 ghost use Rattle.std.specs.Prelude.{◌≡◌, ◌≢◌, ◌↔◌, ◌⊎◌, ◌+◌, ◌≤◌, ◌<◌, ◌++◌, ◌∷◌, [], false, IsTrue, IfOk, OnOk};
-ghost use Rattle.std.specs.Prelude.{OnErr, IsOk};
+ghost use Rattle.std.specs.Prelude.{OnErr, IsOk, vec_capacity};
 ghost use Rattle.std.specs.Io.KnownBytes.{Keeps};
 ghost use mathlib.Core.List.{IsPrefix};
 ghost use Rattle.fl_history.specs.declared.history.Line.TheVariants as line;
@@ -25,8 +25,24 @@ const MOST_LINES: usize = 2048;
 /// wait, and the lines of one order.
 const MOST_WAITING: usize = 60 * 1024;
 
-/// Lines that go to a writer as their text, as `print_trace` spells it. The text waits in a room of some 1.4 megabytes,
-/// made once. It is written before an order if some 64 KB wait, and when the stream is told to store lines or to
+/// The room in which the text of a stream's lines waits: some 1.4 megabytes, made once.
+#[derive(Drop)]
+pub struct StreamRoom {
+    text: Vec<u8>,
+    ghost empty: { text.items ≡ [] },
+    ghost large: { 1433600 ≤ vec_capacity text },
+}
+
+impl StreamRoom {
+    /// Room with nothing in it.
+    pub fn new(alloc: Global) -> Result<StreamRoom, NoMemory> {
+        Ok(StreamRoom {
+            text: Vec::with_capacity(alloc, MOST_LINES * LINE_ROOM)?,
+        })
+    }
+}
+
+/// Lines that go to a writer as their text, as `print_trace` spells it. The text waits in a `StreamRoom`. It is written before an order if some 64 KB wait, and when the stream is told to store lines or to
 /// finish. At `Refuse` it is written before an order only if there is no room for its lines, and there is none once a
 /// write failed, until one succeeds. What was written is noted when all is, and the writer could hand it on.
 ///
@@ -86,22 +102,21 @@ impl<W: Write> Streamed<W> {
           manner = manner;
         }) }
     {
-        Streamed::behind(alloc, writer, &Past::new(), manner)
+        let room = StreamRoom::new(alloc)?;
+        Ok(Streamed::behind(room, writer, &Past::new(), manner))
     }
 
-    /// These lines, before a writer that has their text and nothing more. Lines that come are written behind it. The
-    /// room is made here, and never grows.
+    /// These lines, before a writer that has their text and nothing more. Lines that come are written behind it. It
+    /// takes no memory.
     #[tactic(auto, using(crate::proofs::Streaming::starts))]
     pub fn behind(
-        alloc: Global,
+        room: StreamRoom,
         writer: W,
         base: &Past<Line>,
         manner: WhenWriterFails,
-    ) -> Result<Streamed<W>, NoMemory>
-    where
-        W: Drop,
+    ) -> Streamed<W>
         requires there { IsAs (W.contents writer) (text_of base.now.items) }
-        ensures { IfOk result (λ stream. stream ≡ record {
+        ensures { result ≡ record {
           lines = base.now.items;
           noted = base.now.items;
           held = W.contents writer;
@@ -109,17 +124,18 @@ impl<W: Write> Streamed<W> {
           room = 2048;
           broken = false;
           manner = manner;
-        }) }
+        } }
     {
-        Ok(Streamed {
+        let StreamRoom { text } = room;
+        Streamed {
             past: base.same(),
             noted: base.same(),
-            unsent: Vec::with_capacity(alloc, MOST_LINES * LINE_ROOM)?,
+            unsent: text,
             room: MOST_LINES,
             writer,
             broken: false,
             manner,
-        })
+        }
     }
 
     /// Writes what waits, and says whether the writer holds the text of all lines. They are noted then. A broken stream
