@@ -2,7 +2,7 @@
 use Rattle.std.proofs.Common.{◌≡◌, ℕ, Bool, true, false, List, [], ◌∷◌, Option, None, Some, refl, sym, ap, subst}
 use Rattle.std.proofs.Common.{append-nil, length, length-append, ◌∙◌, arith}
 use Rattle.std.proofs.lemmas.List.Elements.{All-nil}
-use Rattle.std.proofs.KnownBytes.{Appends-kept, Appends-nil, Consumes-kept, Consumes-nil}
+use Rattle.std.proofs.KnownBytes.{Appends-kept, Appends-nil, Consumes-kept, Consumes-nil, Keeps-refl}
 use Rattle.std.specs.Io.KnownBytes.{Keeps}
 use Rattle.std.proofs.Common.{inl, inr}
 use Rattle.std.specs.Prelude.{◌⊎◌, ◌≢◌, IfSome, IsSome, if◌then◌else◌}
@@ -20,6 +20,7 @@ use Rattle.fl_session.specs.declared.server.Server.{Server}
 use Rattle.fl_transport.specs.Collecting.{AreGiven}
 use Rattle.fl_transport.specs.Ending.{EndsBy, IsEnding, IsRead}
 use Rattle.fl_transport.specs.Handshake.{handshake_of}
+use Rattle.fl_transport.specs.Inbox.{Inflow, IsUnread}
 use Rattle.fl_transport.specs.Streams.{Streams}
 use Rattle.fl_transport.specs.declared.fault.Fault.{Fault}
 use Rattle.fl_transport.specs.declared.fault.Fault.TheVariants.{NoMemory, Unstored, Write}
@@ -35,6 +36,10 @@ nothing_read left left_now kept = record {
   cut = record { parts = refl; whole = All-nil IsMessage };
   live = λ front last e. let none = ap length e in absurd (omega (arith, none, length-append front (last ∷ [])));
 }
+
+-- nothing was read into an inbox in which nothing is
+pub unread : (inbox : Inflow) → inbox.rest ≡ [] → IsUnread inbox
+unread inbox empty = record { empty = empty; unread = λ left. rw empty (nothing_read left left (Keeps-refl left)) }
 
 -- a history of no line is legal
 pub nothing_legal : (rules : Rules) (history : List Line) → history ≡ [] → IsLegal rules history

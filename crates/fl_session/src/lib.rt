@@ -22,10 +22,12 @@ mod done;
 pub mod laws;
 mod recorded;
 mod replying;
+mod room;
 mod server;
 mod session;
 
 pub use done::Done;
 pub use fl_transport::{Broken, Fault, Outbox};
 pub use recorded::Recorded;
+pub use room::SessionRoom;
 pub use session::{Ended, record_session, resume_session, run_one, run_session};

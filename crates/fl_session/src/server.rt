@@ -1,6 +1,7 @@
 //! What a session does with each message, apart from reading it.
 
-ghost use Rattle.std.specs.Prelude.{◌≡◌, [], ◌∷◌, ◌++◌, drop, map, false, None, Some, IfOk, IfSome, IsSome, is_some};
+ghost use Rattle.std.specs.Prelude.{◌≡◌, [], ◌∷◌, ◌++◌, drop, map, false, None, Some, IfSome, IsSome, is_some};
+ghost use Rattle.fl_core.specs.Tolds.{HasRoom};
 ghost use Rattle.fl_desk.specs.Legal.{step_lines};
 ghost use Rattle.fl_session.specs.Again.{order_under, unmarked};
 ghost use Rattle.fl_session.specs.Inside.Serving.{IsFresh, IsReady, recalled_at, with_lines};
@@ -11,13 +12,12 @@ ghost use Rattle.fl_wire.specs.Layout.{unique_of};
 
 use crate::again::{order_under, response_under, unmarked};
 use crate::replying::Replying;
-use fl_core::{Rules, Tolds};
+use fl_core::Tolds;
 use fl_desk::Desk;
 use fl_history::{Journal, Recalled, Recent};
 use fl_order::{NoMemory, Order, Told};
 use fl_transport::{Handshake, Incoming, Response};
 use fl_wire::{Batch, Frame};
-use std::alloc::Global;
 use std::io::Write;
 
 /// The lock directory of a session, and how far the session is. Its lines go to a journal.
@@ -33,28 +33,21 @@ pub(crate) struct Server<J: Journal> {
 }
 
 impl<J: Journal> Server<J> {
-    /// No message came yet. The desk has these rules, and the last lines are its own.
-    pub(crate) fn new(
-        alloc: Global,
-        desk: Desk<J>,
-        recent: Option<Recent>,
-        rules: Rules,
-    ) -> Result<Server<J>, NoMemory>
-    where
-        J: Drop,
-        requires rules { desk.present.rules ≡ rules }
+    /// No message came yet. There is room for the replies of an order, and the last lines are the desk's own.
+    pub(crate) fn new(desk: Desk<J>, recent: Option<Recent>, tolds: Tolds) -> Server<J>
         requires recent { IfSome recent (λ lines. lines ≡ desk.lines) }
-        ensures fresh { IfOk result IsFresh }
-        ensures desk { IfOk result (λ server. server.desk ≡ desk) }
-        ensures recent { IfOk result (λ server. server.recent ≡ recent) }
+        requires room { HasRoom desk.present.rules tolds }
+        ensures fresh { IsFresh result }
+        ensures desk { result.desk ≡ desk }
+        ensures recent { result.recent ≡ recent }
     {
-        Ok(Server {
+        Server {
             desk,
             recent,
-            tolds: Tolds::new(alloc, rules)?,
+            tolds,
             handshake: Handshake::new(),
             refused: false,
-        })
+        }
     }
 
     /// Answers a message of a session that isn't over.

@@ -1,6 +1,6 @@
 //! A whole session of the FUSE protocol with one worker, over any reader and any writer.
 
-ghost use Rattle.std.specs.Prelude.{◌≡◌, ◌≢◌, ◌⊎◌, Bool, true, false, [], Option, None, Some, IfOk, IfSome, IsSome, IsTrue, OnErr};
+ghost use Rattle.std.specs.Prelude.{◌≡◌, ◌≢◌, ◌⊎◌, Bool, true, false, [], Option, None, Some, IfSome, IsSome, IsTrue};
 ghost use Rattle.std.specs.Prelude.{is_some};
 ghost use Rattle.std.specs.Io.KnownBytes.{Keeps};
 ghost use Rattle.fl_desk.specs.Legal.{IsLegal};
@@ -12,12 +12,12 @@ use crate::answering::serve_all;
 use crate::done::Done;
 use crate::recorded::Recorded;
 use crate::replying::Replying;
+use crate::room::SessionRoom;
 use crate::server::Server;
 use fl_core::Rules;
 use fl_desk::Desk;
 use fl_history::{Journal, Lines, Recent};
-use fl_order::NoMemory;
-use fl_transport::{Fault, Inbox, Outbox, ReplyBatch, ReplyBuffer};
+use fl_transport::{Fault, Outbox, ReplyBatch};
 use std::alloc::Global;
 use std::io::{Read, Write};
 use std::marker::PhantomData;
@@ -94,72 +94,71 @@ pub fn record_session<R: Read, W: Write, J: Journal + Drop>(
     ensures unwritten { result.0.fault ≡ Some Fault.NoMemory → Keeps (W.contents w.old) (W.contents w.new) }
     ensures stored { IsTrue J.infallible → result.0.fault ≢ Some Fault.Unstored }
 {
+    let Ok(room) = SessionRoom::new(alloc, rules) else {
+        return (Recorded::nothing(alloc, Fault::NoMemory), false);
+    };
     let Ok(desk) = Desk::over(alloc, journal, rules) else {
         return (Recorded::nothing(alloc, Fault::NoMemory), false);
     };
-    match serve_session(alloc, r, w, desk, None, rules) {
-        Ok(ended) => ended,
-        Err(NoMemory) => (Recorded::nothing(alloc, Fault::NoMemory), false),
-    }
+    serve_session(room, r, w, desk, None)
 }
 
-/// The same, but the session goes on behind the lines of a desk that has these rules, and knows messages that are sent
-/// again (`FUSE_UNIQUE_RESEND`). `recent` has the same lines. The journal comes back, and the history is all its lines.
-/// If memory runs out, the desk is dropped, and nothing was read or written.
+/// The same, but the session goes on behind the lines of a desk, and knows messages that are sent again
+/// (`FUSE_UNIQUE_RESEND`). `recent` has the same lines. All memory but that of the history is there before, so the
+/// journal comes back, and the history is all its lines.
 pub fn resume_session<R: Read, W: Write, J: Journal + Drop>(
-    alloc: Global,
+    room: SessionRoom,
     r: &mut R,
     w: &mut W,
     desk: Desk<J>,
     recent: Recent,
-    rules: Rules,
-) -> Result<(Recorded<J>, bool), NoMemory>
-    requires rules { desk.present.rules ≡ rules }
+) -> (Recorded<J>, bool)
+    requires rules { desk.present.rules ≡ room.rules }
     requires recent { recent ≡ desk.lines }
-    ensures served { IfOk result (λ ended. IfSome ended.0.journal (λ journal.
-        IsServedAheadBehind rules desk.lines (record {
-          left = R.remaining r.old;
-          left_now = R.remaining r.new;
-          held = W.contents w.old;
-          held_now = W.contents w.new;
-        }) ended.1 (done_of J.lines ended.0) (J.stored journal))) }
-    ensures legal { IfOk result (λ ended. IfSome ended.0.journal (λ journal. IsLegal rules (J.lines journal))) }
-    ensures back { IfOk result (λ ended. IsSome ended.0.journal) }
-    ensures fault { IfOk result (λ ended. ended.0.fault ≢ Some Fault.NoMemory) }
-    ensures stored { IfOk result (λ ended. IsTrue J.infallible → ended.0.fault ≢ Some Fault.Unstored) }
-    ensures unread { OnErr result (Keeps (R.remaining r.old) (R.remaining r.new) × Keeps (W.contents w.old) (W.contents w.new)) }
+    ensures served { IfSome result.0.journal (λ journal. IsServedAheadBehind room.rules desk.lines (record {
+      left = R.remaining r.old;
+      left_now = R.remaining r.new;
+      held = W.contents w.old;
+      held_now = W.contents w.new;
+    }) result.1 (done_of J.lines result.0) (J.stored journal)) }
+    ensures legal { IfSome result.0.journal (λ journal. IsLegal room.rules (J.lines journal)) }
+    ensures back { IsSome result.0.journal }
+    ensures fault { result.0.fault ≢ Some Fault.NoMemory }
+    ensures stored { IsTrue J.infallible → result.0.fault ≢ Some Fault.Unstored }
 {
-    serve_session(alloc, r, w, desk, Some(recent), rules)
+    serve_session(room, r, w, desk, Some(recent))
 }
 
-// Serves a session behind the lines of a desk that has these rules. It knows messages that are sent again if the last
-// lines are kept.
+// Serves a session behind the lines of a desk. It knows messages that are sent again if the last lines are kept.
 fn serve_session<R: Read, W: Write, J: Journal + Drop>(
-    alloc: Global,
+    room: SessionRoom,
     r: &mut R,
     w: &mut W,
     desk: Desk<J>,
     recent: Option<Recent>,
-    rules: Rules,
-) -> Result<(Recorded<J>, bool), NoMemory>
-    requires rules { desk.present.rules ≡ rules }
+) -> (Recorded<J>, bool)
+    requires rules { desk.present.rules ≡ room.rules }
     requires recent { IfSome recent (λ lines. lines ≡ desk.lines) }
-    ensures served { IfOk result (λ ended. IfSome ended.0.journal (λ journal.
-        IsServedAheadFrom (session_behind rules desk.lines (is_some recent)) (record {
+    ensures served { IfSome result.0.journal (λ journal.
+        IsServedAheadFrom (session_behind room.rules desk.lines (is_some recent)) (record {
           left = R.remaining r.old;
           left_now = R.remaining r.new;
           held = W.contents w.old;
           held_now = W.contents w.new;
-        }) ended.1 (done_of J.lines ended.0) (J.stored journal))) }
-    ensures legal { IfOk result (λ ended. IfSome ended.0.journal (λ journal. IsLegal rules (J.lines journal))) }
-    ensures back { IfOk result (λ ended. IsSome ended.0.journal) }
-    ensures fault { IfOk result (λ ended. ended.0.fault ≢ Some Fault.NoMemory) }
-    ensures stored { IfOk result (λ ended. IsTrue J.infallible → ended.0.fault ≢ Some Fault.Unstored) }
-    ensures unread { OnErr result (Keeps (R.remaining r.old) (R.remaining r.new) × Keeps (W.contents w.old) (W.contents w.new)) }
+        }) result.1 (done_of J.lines result.0) (J.stored journal)) }
+    ensures legal { IfSome result.0.journal (λ journal. IsLegal room.rules (J.lines journal)) }
+    ensures back { IsSome result.0.journal }
+    ensures fault { result.0.fault ≢ Some Fault.NoMemory }
+    ensures stored { IsTrue J.infallible → result.0.fault ≢ Some Fault.Unstored }
 {
-    let mut inbox = Inbox::new(alloc)?;
-    let mut server = Server::new(alloc, desk, recent, rules)?;
-    let replies = ReplyBuffer::new(alloc)?;
+    let SessionRoom {
+        inbox,
+        tolds,
+        replies,
+        ..
+    } = room;
+    let mut inbox = inbox;
+    let mut server = Server::new(desk, recent, tolds);
     let mut replying = Replying {
         batch: ReplyBatch {
             replies,
@@ -186,5 +185,5 @@ fn serve_session<R: Read, W: Write, J: Journal + Drop>(
         fault: Fault::told(fault, broken),
         refused,
     };
-    Ok((recorded, broken))
+    (recorded, broken)
 }

@@ -8,15 +8,15 @@ pub returns-in_default-clause-served : goal.returns-in_default-clause-served
 returns-in_default-clause-served g c = unserved _ _ _ _ _ _ (ap (journal_lines g.J.Journal.lines) c.nothing.ensures.journal)
     c.nothing.ensures.fault c.nothing.ensures.refused (c.nothing.ensures.read _ _ (Keeps-refl _)) (Keeps-refl _)
 
-pub returns-in-Err-clause-served : goal.returns-in-Err-clause-served
-returns-in-Err-clause-served g c = unserved _ _ _ _ _ _ (ap (journal_lines g.J.Journal.lines) c.nothing-in-Err.ensures.journal)
-    c.nothing-in-Err.ensures.fault c.nothing-in-Err.ensures.refused (c.nothing-in-Err.ensures.read _ _ c.in-Err.ensures.unread.0)
-    c.in-Err.ensures.unread.1
+pub returns-in_default-over-clause-served : goal.returns-in_default-over-clause-served
+returns-in_default-over-clause-served g c = unserved _ _ _ _ _ _ (ap (journal_lines g.J.Journal.lines) c.nothing-in_default-over.ensures.journal)
+    c.nothing-in_default-over.ensures.fault c.nothing-in_default-over.ensures.refused
+    (c.nothing-in_default-over.ensures.read _ _ (Keeps-refl _)) (Keeps-refl _)
 
-pub returns-in-Ok-serve_session-clause-served : goal.returns-in-Ok-serve_session-clause-served
-returns-in-Ok-serve_session-clause-served g c = served_alone _ _ _ _ g.J.Journal.lines g.J.Journal.stored _
-    c.in-Ok.ensures.lines c.in-Ok-serve_session.ensures.back c.in-Ok-serve_session.ensures.served
+pub returns-clause-served : goal.returns-clause-served
+returns-clause-served g c = rw (← c.in-Ok.ensures.rules) (served_alone _ _ _ _ g.J.Journal.lines g.J.Journal.stored _
+    c.in-Ok-over.ensures.lines c.serve_session.ensures.back c.serve_session.ensures.served)
 
-pub returns-in-Ok-serve_session-clause-ahead : goal.returns-in-Ok-serve_session-clause-ahead
-returns-in-Ok-serve_session-clause-ahead g c = ahead_alone _ _ _ _ g.J.Journal.lines g.J.Journal.stored _
-    c.in-Ok.ensures.lines c.in-Ok-serve_session.ensures.served
+pub returns-clause-ahead : goal.returns-clause-ahead
+returns-clause-ahead g c = rw (← c.in-Ok.ensures.rules) (ahead_alone _ _ _ _ g.J.Journal.lines g.J.Journal.stored _
+    c.in-Ok-over.ensures.lines c.serve_session.ensures.served)
