@@ -178,12 +178,12 @@ def leaves(server):
 
 def serve_with_file(orders, how, before, number):
     """As `serve`, of a server whose trace's file has this text before, or isn't there. Says whether it went on: then it refuses no order. If not, it
-    leaves no file of `--trace`, and that of `--resume` as it was, perhaps without what follows the last newline."""
+    leaves no file of `--trace`, and that of `--resume` as it was, or empty if there was none."""
     server = Server(*how, env=refusing(number), traced=before, workers=None)
     found = talk(server, orders)
     ended = server.ended()
     if ended == (b"", "no memory\n", 2):
-        kept = {before} if how[0] == "--trace" else {before, b"".join(lines_of(before or b""))}
+        kept = {before} if how[0] == "--trace" else {before, before or b""}
         assert found is None and leaves(server) in kept, (number, how, before, found, leaves(server))
         return False
     assert ended == (b"", "", 0) and found is not None, (number, how, before, ended)

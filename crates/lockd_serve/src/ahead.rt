@@ -1,14 +1,13 @@
 //! Lines that are stored in a file before replies leave.
 
-ghost use Rattle.std.specs.Prelude.{◌≡◌, IfOk};
+ghost use Rattle.std.specs.Prelude.{◌≡◌};
 ghost use mathlib.Core.List.{IsPrefix};
 ghost use Rattle.fl_stream.specs.Streams.{IsAs};
 ghost use Rattle.fl_trace.specs.Text.{text_of};
 
 use fl_history::{Journal, Line, Past};
 use fl_order::{NoMemory, Order, Told};
-use fl_stream::{Streamed, WhenWriterFails};
-use std::alloc::Global;
+use fl_stream::{StreamRoom, Streamed, WhenWriterFails};
 use std::io::Write;
 use std::marker::Model;
 
@@ -33,19 +32,14 @@ impl<T: Write> Model for AheadLines<T> {
 
 impl<T: Write> AheadLines<T> {
     /// These lines, before a writer that has their text and nothing more.
-    pub(crate) fn behind(
-        alloc: Global,
-        writer: T,
-        base: &Past<Line>,
-    ) -> Result<AheadLines<T>, NoMemory>
-    where
-        T: Drop,
+    pub(crate) fn behind(room: StreamRoom, writer: T, base: &Past<Line>) -> AheadLines<T>
         requires there { IsAs (T.contents writer) (text_of base.now.items) }
-        ensures lines { IfOk result (λ made. made.lines ≡ base.now.items) }
+        ensures lines { result.lines ≡ base.now.items }
+        ensures room { result.room ≡ 2048 }
     {
-        Ok(AheadLines {
-            stream: Streamed::behind(alloc, writer, base, WhenWriterFails::End)?,
-        })
+        AheadLines {
+            stream: Streamed::behind(room, writer, base, WhenWriterFails::End),
+        }
     }
 
     /// The stream, which never goes on without its writer.

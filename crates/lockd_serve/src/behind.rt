@@ -1,7 +1,6 @@
 //! A session behind the lines of a trace.
 
-ghost use Rattle.std.specs.Prelude.{◌≡◌, ◌≢◌, ◌++◌, Some, IfOk, OnErr, IsTrue};
-ghost use Rattle.std.specs.Io.KnownBytes.{Keeps};
+ghost use Rattle.std.specs.Prelude.{◌≡◌, ◌≢◌, ◌≤◌, ◌++◌, Some, IsTrue, length};
 ghost use Rattle.fl_desk.specs.Kept.{IsKept};
 ghost use Rattle.fl_judge.specs.Present.{told_lines};
 ghost use Rattle.fl_transport.specs.declared.fault.Fault.{Fault as SessionFault};
@@ -14,10 +13,9 @@ use crate::point::ResumePoint;
 use fl_desk::Desk;
 use fl_history::{Journal, Line, Past, Recent};
 use fl_judge::Resumed;
-use fl_order::{NoMemory, Told};
+use fl_order::Told;
 use fl_session::{Fault, Recorded, resume_session};
-use fl_stream::Streamed;
-use std::alloc::Global;
+use fl_stream::{StreamRoom, Streamed};
 use std::io::{Read, Write};
 
 /// A session that went on behind a trace, once it is over.
@@ -38,33 +36,31 @@ pub struct ResumedRun<T> {
 /// Serves a session that goes on from this point. `file` has the text of the point's lines and nothing more. The
 /// replies that they lack are written first, and then the lines of each order before any of its replies goes to the
 /// client. If lines can't be written, no reply that waits for them goes out, and the session ends. A message that is
-/// sent again (`FUSE_UNIQUE_RESEND`) is answered as it was, or is new if the last lines lack it. If memory runs out,
-/// the file is dropped, and nothing was read from the client or written to it.
+/// sent again (`FUSE_UNIQUE_RESEND`) is answered as it was, or is new if the last lines lack it. All memory is there
+/// before.
 pub(crate) fn resume<R: Read, W: Write, T: Write + Drop>(
-    alloc: Global,
     r: &mut R,
     w: &mut W,
     point: ResumePoint,
     file: T,
-) -> Result<ResumedRun<T>, NoMemory>
+) -> ResumedRun<T>
     requires there { IsAs (T.contents file) (text_of point.resumed.past.items) }
     requires recent { point.recent ≡ point.resumed.past.items }
     requires kept { IsKept (lines_at point) point.resumed.present }
-    requires rules { point.resumed.present.rules ≡ point.rules }
-    ensures resumed { IfOk result (IsResumed point.rules (lines_at point) T.contents (record {
+    requires rules { point.resumed.present.rules ≡ point.session.rules }
+    ensures resumed { IsResumed point.session.rules (lines_at point) T.contents (record {
       left = R.remaining r.old;
       left_now = R.remaining r.new;
       held = W.contents w.old;
       held_now = W.contents w.new;
-    })) }
-    ensures fault { IfOk result (λ run. run.fault ≢ Some SessionFault.NoMemory) }
-    ensures unread { OnErr result
-        (Keeps (R.remaining r.old) (R.remaining r.new) × Keeps (W.contents w.old) (W.contents w.new)) }
+    }) result }
+    ensures fault { result.fault ≢ Some SessionFault.NoMemory }
 {
     let ResumePoint {
         resumed,
         recent,
-        rules,
+        session,
+        stream,
         ..
     } = point;
     let Resumed {
@@ -72,10 +68,10 @@ pub(crate) fn resume<R: Read, W: Write, T: Write + Drop>(
         missing,
         past,
     } = resumed;
-    let journal = lines_behind(alloc, file, &past, missing.as_slice())?;
+    let journal = lines_behind(stream, file, &past, missing.as_slice());
     let recent = recent_behind(recent, missing.as_slice());
     let desk = Desk::resume(journal, present);
-    let (recorded, broken) = resume_session(alloc, r, w, desk, recent, rules)?;
+    let (recorded, broken) = resume_session(session, r, w, desk, recent);
     let Recorded {
         journal,
         fault,
@@ -85,31 +81,31 @@ pub(crate) fn resume<R: Read, W: Write, T: Write + Drop>(
         unreachable!()
     };
     let (file, whole) = finish(journal.into_stream());
-    Ok(ResumedRun {
+    ResumedRun {
         file,
         fault,
         refused,
         broken,
         whole,
-    })
+    }
 }
 
 // The lines of a trace and the replies that they lack, before a file that has the text of the former.
-fn lines_behind<T: Write + Drop>(
-    alloc: Global,
+fn lines_behind<T: Write>(
+    room: StreamRoom,
     file: T,
     past: &Past<Line>,
     missing: &[Told],
-) -> Result<AheadLines<T>, NoMemory>
+) -> AheadLines<T>
     requires there { IsAs (T.contents file) (text_of past.now.items) }
-    ensures { IfOk result (λ made. made.lines ≡ past.now.items ++ told_lines missing.now) }
+    requires few { length missing.now ≤ 2048 }
+    ensures { result.lines ≡ past.now.items ++ told_lines missing.now }
 {
-    let mut journal = AheadLines::behind(alloc, file, past)?;
+    let mut journal = AheadLines::behind(room, file, past);
     for told in missing {
-        journal.reserve(1)?;
         journal.push_told(told);
     }
-    Ok(journal)
+    journal
 }
 
 // The last lines of a trace and of the replies that it lacks.

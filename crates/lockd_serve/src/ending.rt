@@ -130,6 +130,7 @@ pub(crate) fn end_resumed<F: Write>(faults: &mut F, fault: Option<Fault>, whole:
       told_now = F.contents faults.new;
     }) }
     ensures good { result ≡ Status.Good → (fault ≡ None) × IsTrue whole }
+    ensures memory { result ≡ Status.Faulted CommandFault.NoMemory → fault ≡ Some SessionFault.NoMemory }
 {
     if !whole {
         return end_untraced(faults, fault);

@@ -21,8 +21,7 @@
 //!   `lockd_streams` let through;
 //! - a `serve_on` that always says `cannot listen`, or serves something else than the connection;
 //! - a `resumed_from` that is always refused, and what `fl_judge` lets through;
-//! - a `resume_stream` that says `no memory` and serves nobody, whatever it wrote to the file before, or that the file
-//!   isn't whole though it is, or that writes nothing to it before a reply waits;
+//! - a `resume_stream` that says that the file isn't whole though it is, or writes nothing to it before a reply waits;
 //! - a `resume_on` that serves nobody and prints any of its faults or none, hands on no lines, or others than the
 //!   file's, or writes the new ones elsewhere;
 //! - one that cuts nothing off or too much, or a file whose lines differ or that may be no trace; that doesn't lock its

@@ -1,10 +1,11 @@
 //! What a server goes on from.
 
-use fl_core::Rules;
 use fl_history::Recent;
 use fl_judge::Resumed;
+use fl_session::SessionRoom;
+use fl_stream::StreamRoom;
 
-/// What a server goes on from behind the whole lines of a trace's file.
+/// What a server goes on from behind the whole lines of a trace's file. All memory that it needs is there.
 #[derive(Drop)]
 pub struct ResumePoint {
     /// What is there after the lines and the replies that they lack.
@@ -13,6 +14,8 @@ pub struct ResumePoint {
     pub recent: Recent,
     /// The bytes of the lines, each with its newline.
     pub bytes: u64,
-    /// By which rules requests wait.
-    pub rules: Rules,
+    /// The memory of its session, and by which rules requests wait.
+    pub session: SessionRoom,
+    /// The memory for the text of its lines.
+    pub stream: StreamRoom,
 }

@@ -18,6 +18,9 @@ use crate::resuming::resume_stream;
 use fl_core::Rules;
 use fl_desk::Verdict;
 use fl_judge::{AuditFault, Details, Heard, Judge, Resumed, hear_cut};
+use fl_order::NoMemory;
+use fl_session::SessionRoom;
+use fl_stream::StreamRoom;
 use lockd_faults::{CommandFault, Noting, Status, end};
 use lockd_streams::{
     Announcing, Observer, OldSocket, Patient, Retrying, Spinning, Untraced, WhenUnwritten,
@@ -94,10 +97,7 @@ pub fn resume_on<R: Net + Files + Clock, F: Write, N: Write + Drop, O: Observer>
     let mut w = Noting::new(Patient::new(&stream, &stream));
     let file = Retrying::new(Announcing::new(file, name, notices), rt, when);
     let socket = Some(&stream);
-    let (status, run) = resume_stream(alloc, &mut r, &mut w, point, file, socket, faults);
-    let Some(run) = run else {
-        return status;
-    };
+    let (status, run) = resume_stream(&mut r, &mut w, point, file, socket, faults);
     let there = is_at(rt, Path::new(name), run.file.writer().file());
     let status = end_at(faults, status, run.whole, there);
     observer.ended(r.client(), w.failed());
@@ -179,7 +179,7 @@ fn end_at<F: Write>(faults: &mut F, status: Status, whole: bool, there: bool) ->
 }
 
 /// What a server goes on from behind the lines of a trace's file, under these rules: all its lines, up to the last
-/// newline. What is told of them goes to `details`.
+/// newline. What is told of them goes to `details`. All memory that the server needs is made before the file is read.
 pub fn resumed_from<S: Read>(
     alloc: Global,
     rules: Rules,
@@ -190,10 +190,13 @@ pub fn resumed_from<S: Read>(
         (λ text. AreWholeLines text point.resumed.past.items point.bytes)) }
     ensures recent { IfOk result (λ point. point.recent ≡ point.resumed.past.items) }
     ensures kept { IfOk result (λ point. IsKept (lines_at point) point.resumed.present) }
-    ensures present { IfOk result (λ point. point.resumed.present.rules ≡ point.rules) }
-    ensures rules { IfOk result (λ point. point.rules ≡ rules) }
+    ensures present { IfOk result (λ point. point.resumed.present.rules ≡ point.session.rules) }
+    ensures rules { IfOk result (λ point. point.session.rules ≡ rules) }
     ensures error { IfErr result (λ fault. IsSoOfAll (S.remaining file.old) (λ text. FileSays rules text fault)) }
 {
+    let Ok((session, stream)) = rooms(alloc, rules) else {
+        return Err(CommandFault::NoMemory);
+    };
     let heard = match hear_cut(alloc, rules, file, details) {
         Ok(heard) => heard,
         Err(fault) => return Err(told(fault)),
@@ -211,8 +214,16 @@ pub fn resumed_from<S: Read>(
         resumed,
         recent,
         bytes,
-        rules,
+        session,
+        stream,
     })
+}
+
+// The memory of a session under these rules, and for the text of its lines.
+fn rooms(alloc: Global, rules: Rules) -> Result<(SessionRoom, StreamRoom), NoMemory>
+    ensures { IfOk result (λ made. made.0.rules ≡ rules) }
+{
+    Ok((SessionRoom::new(alloc, rules)?, StreamRoom::new(alloc)?))
 }
 
 // What a server goes on from behind the lines that a judge heard. The fault is the line that differs, if no legal

@@ -1,20 +1,17 @@
 //! One session behind the lines of a trace, over a reader and two writers, and what is left of it.
 
-ghost use Rattle.std.specs.Prelude.{◌≡◌, None, Some, IfSome, IsTrue};
-ghost use Rattle.std.specs.Io.KnownBytes.{Keeps};
+ghost use Rattle.std.specs.Prelude.{◌≡◌, ◌≢◌, None, IsTrue};
 ghost use Rattle.fl_desk.specs.Kept.{IsKept};
 ghost use Rattle.fl_stream.specs.Streams.{IsAs};
 ghost use Rattle.fl_trace.specs.Text.{text_of};
 ghost use Rattle.lockd_faults.specs.declared.fault.CommandFault.{CommandFault};
-ghost use Rattle.lockd_serve.specs.Ending.{Ends};
 ghost use Rattle.lockd_serve.specs.Resumed.{IsOverBehind, lines_at};
 
 use crate::behind::{ResumedRun, resume};
 use crate::ending::end_resumed;
 use crate::point::ResumePoint;
 use crate::serving::hang_up_if;
-use lockd_faults::{CommandFault, Status, end};
-use std::alloc::Global;
+use lockd_faults::Status;
 use std::io::{Read, Write};
 use std::os::unix::net::UnixStream;
 
@@ -24,21 +21,20 @@ use std::os::unix::net::UnixStream;
 /// socket, it is shut down once the session is over.
 ///
 /// A fault is one line on `faults`. Behind the session's fault it is told that the trace failed, if the file lacks
-/// lines. If memory runs out, that is told, nobody was served, and the file is dropped.
+/// lines.
 pub fn resume_stream<I: Read, C: Write, T: Write + Drop, F: Write>(
-    alloc: Global,
     r: &mut I,
     w: &mut C,
     point: ResumePoint,
     file: T,
     socket: Option<&UnixStream>,
     faults: &mut F,
-) -> (Status, Option<ResumedRun<T>>)
+) -> (Status, ResumedRun<T>)
     requires there { IsAs (T.contents file) (text_of point.resumed.past.items) }
     requires recent { point.recent ≡ point.resumed.past.items }
     requires kept { IsKept (lines_at point) point.resumed.present }
-    requires rules { point.resumed.present.rules ≡ point.rules }
-    ensures over { IfSome result.1 (IsOverBehind point.rules (lines_at point) T.contents (record {
+    requires rules { point.resumed.present.rules ≡ point.session.rules }
+    ensures over { IsOverBehind point.session.rules (lines_at point) T.contents (record {
       left = I.remaining r.old;
       left_now = I.remaining r.new;
       held = C.contents w.old;
@@ -47,25 +43,16 @@ pub fn resume_stream<I: Read, C: Write, T: Write + Drop, F: Write>(
       status = result.0;
       told = F.contents faults.old;
       told_now = F.contents faults.new;
-    })) }
+    }) result.1 }
 
     // A good status says that all was served and written, and is in the file.
-    ensures good { result.0 ≡ Status.Good
-        → (run : _) × (result.1 ≡ Some run) × (run.fault ≡ None) × IsTrue run.whole }
+    ensures good { result.0 ≡ Status.Good → (result.1.fault ≡ None) × IsTrue result.1.whole }
 
-    // If no session comes back, there was no memory, and nobody was served: nothing was read, and nothing was written.
-    ensures nothing { result.1 ≡ None → Ends (Some CommandFault.NoMemory) (record {
-      status = result.0;
-      told = F.contents faults.old;
-      told_now = F.contents faults.new;
-    }) }
-    ensures unread { result.1 ≡ None
-        → Keeps (I.remaining r.old) (I.remaining r.new) × Keeps (C.contents w.old) (C.contents w.new) }
+    // `no memory` is told before anything is read from the client, or written to it or to the file.
+    ensures memory { result.0 ≢ Status.Faulted CommandFault.NoMemory }
 {
-    let Ok(run) = resume(alloc, r, w, point, file) else {
-        return (end(faults, Err(CommandFault::NoMemory)), None);
-    };
+    let run = resume(r, w, point, file);
     hang_up_if(socket);
     let status = end_resumed(faults, run.fault, run.whole);
-    (status, Some(run))
+    (status, run)
 }

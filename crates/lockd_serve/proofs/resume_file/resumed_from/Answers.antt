@@ -1,8 +1,12 @@
 use Rattle.std.proofs.Common.{rules, sym, subst}
 use Rattle.fl_judge.specs.First.{IsSoOfAll}
+use Rattle.fl_judge.specs.declared.finding.AuditFault.TheVariants.{NoMemory}
 use Rattle.lockd_serve.specs.Behind.{FileSays}
 use Rattle.lockd_serve.proofs.BehindLemmas.{unread}
 use Rattle.lockd_serve.proofs.resume_file.resumed_from.Goals as goal
+
+pub returns-in_default-clause-error : goal.returns-in_default-clause-error
+returns-in_default-clause-error g c = unread c.args.rules (g.S.Read.remaining c.args.file.now) NoMemory (λ n is. absurd (cc is))
 
 pub returns-in-Err-clause-error : goal.returns-in-Err-clause-error
 returns-in-Err-clause-error g c =
