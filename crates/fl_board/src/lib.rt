@@ -15,7 +15,7 @@
 //!   publishes for each order;
 //! - one that waits for its lines, or sends what is outgoing, under the lock, or waits while something is outgoing;
 //! - one that counts its lines as stored before they are: then `into_journal` says `NoView`, if they aren't by then;
-//! - a `hand_in` or `hand_in_all` that ends publication as if memory had run out: then every later look is `NoView`;
+//! - a `hand_in` or `hand_in_all` that ends publication as if memory had run out: then looks are `NoView` until `warm`;
 //! - a `hand_in_all` that lets the copies that looks read go too soon or never, and a `warm` that makes none.
 //! `fl_book_tests` refuses these, the last two by `a_seat_without_the_right_to_wait_is_shown_each_order` and
 //! `looks_find_nothing_after_many_orders_until_copies_are_made_anew`; that one waits for its lines, and how, is seen by

@@ -25,7 +25,7 @@ pub record Extension : Type 0 where
   pub before : List Ask
   pub after : List Ask
 
--- the asks that were added to a writer, and those that led to what readers find; none once memory for an update ran out
+-- the asks that were added to a writer, and those that led to what readers find, or none while there are no copies
 pub record Publication : Type 0 where
   pub asks : List Ask
   pub shown : Option (List Ask)

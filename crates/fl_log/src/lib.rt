@@ -12,8 +12,8 @@
 //! - an `append` and an `is_by` that always say no, and a `Beginning::add` that adds more than it says, so that every
 //!   later one says no;
 //! - a `look_at` that always gives none, or answers from an earlier copy;
-//! - a `ReplicaWriter` whose `new` or `reader` is always refused, whose `add` ends as if memory had run out, or whose
-//!   `new` makes room for fewer updates.
+//! - a `ReplicaWriter` whose `new`, `warm` or `reader` is always refused, whose `add` ends as if memory had run out, or
+//!   who makes room for fewer updates.
 //! Users of a log tell such an answer as a fault of their own, and their tests see that it never comes. Tests of boards
 //! refuse those of replicas.
 #![tactic(auto)]

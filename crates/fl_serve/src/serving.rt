@@ -34,10 +34,11 @@ const STACK_BYTES: usize = 2 << 20;
 
 /// Serves a whole session with 1 to 16 workers, under these rules. The reader, which is the caller's thread, answers
 /// what is no order; each order goes to a worker, which looks for it at one board or hands it in there, and sends all
-/// its replies, each whole. Replies that are ready go out together. All memory but that of the history is made, and all
-/// workers are started, before the first read. At the stream's end, at a fault of the reader and at a DESTROY the
-/// orders that were read are finished, and only then is a DESTROY answered. After a write that failed it goes on, and
-/// writes no more. If both fail, the fault is the reader's. The gate is called for each order and reply.
+/// its replies, each whole. Replies that are ready go out together. All memory is made, but that of the history and of
+/// new copies for looks, and all workers are started, before the first read. At the stream's end, at a fault of the
+/// reader and at a DESTROY the orders that were read are finished, and only then is a DESTROY answered. After a write
+/// that failed it goes on, and writes no more. If both fail, the fault is the reader's. The gate is called for each
+/// order and reply.
 pub fn serve<R: Threads + Wait + Sync, I: Read, W: Write + Send + Drop, G: Gate + Sync>(
     rt: &R,
     alloc: Global,
@@ -242,8 +243,8 @@ fn run_pool<
     finish(alloc, pool, back, received, left)
 }
 
-// The sender of a session of which a worker couldn't be started. All else is dropped: here, and not where the session is
-// run, so that few steps have many values.
+// The sender of a session of which a worker couldn't be started. All else is dropped: here, and not where the session
+// is run, so that few steps have many values.
 fn only_sender<'w, L: BoardName, N: WriterName, R: Wait, W: Write, G, J: Journal + Drop>(
     pool: WorkerPool<'_, 'w, L, N, R, W, G, J>,
     _back: Back<L, N>,

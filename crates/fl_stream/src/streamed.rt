@@ -42,9 +42,10 @@ impl StreamRoom {
     }
 }
 
-/// Lines that go to a writer as their text, as `print_trace` spells it. The text waits in a `StreamRoom`. It is written before an order if some 64 KB wait, and when the stream is told to store lines or to
-/// finish. At `Refuse` it is written before an order only if there is no room for its lines, and there is none once a
-/// write failed, until one succeeds. What was written is noted when all is, and the writer could hand it on.
+/// Lines that go to a writer as their text, as `print_trace` spells it. The text waits in a `StreamRoom`. It is written
+/// before an order if some 64 KB wait, and when the stream is told to store lines or to finish. At `Refuse` it is
+/// written before an order only if there is no room for its lines, and there is none once a write failed, until one
+/// succeeds. What was written is noted when all is, and the writer could hand it on.
 ///
 /// Contracts see all lines so far, those that were noted, what the writer holds, the text that waits, the room for more
 /// lines, what it does when a write fails, and whether it is broken: then it goes on without its writer, and writes

@@ -2,8 +2,8 @@
 //!
 //! What workers do is proved for every `Counter`. No worker can put an order back: it has no end that puts. Contracts
 //! say which replies are given to be sent, and not when they leave. They let through:
-//! - a worker or a `handle_all` that refuses orders or never looks; and one, or a `receive_all`, that tells that
-//!   replies were lost, and leaves some out or none;
+//! - a worker or a `handle_all` that refuses orders, or never looks or calls `warm`; and one, or a `receive_all`, that
+//!   tells that replies were lost, and leaves some out or none;
 //! - a worker that ends at once, takes or hands in orders one by one, keeps replies until the end, calls no gate,
 //!   pauses never or always, or waits for ever; and one that gives the counter nothing to send before it waits;
 //! - a `new` of room that is always refused;

@@ -4,8 +4,8 @@ use Rattle.fl_board.specs.Seats.{Place}
 use Rattle.fl_history.specs.declared.history.Line.{Line}
 use Rattle.fl_log.specs.declared.ask.Ask.{Ask}
 
--- the asks that were handed in; those that led to what readers find, or none once memory for an update ran out; and the
--- lines that the journal has stored
+-- the asks that were handed in; those that led to what readers find, or none while there are no copies; and the lines
+-- that the journal has stored
 pub record Recorded : Type 0 where
   pub asks : List Ask
   pub shown : Option (List Ask)
