@@ -1,3 +1,4 @@
+pub mod AheadLemmas
 pub mod BehindLemmas
 pub mod CutTexts
 pub mod Histories

@@ -1,4 +1,4 @@
--- What is said of a session behind lines, of what came back of it.
+-- What is said of a session behind lines, of what came back of it; and what a writer has of lines.
 use Rattle.std.proofs.Common.{◌≡◌, ◌∙◌, ℕ, Bool, List, [], ◌∷◌, ◌++◌, Option, Some, ap, append_assoc, subst, sym}
 use Rattle.std.proofs.lemmas.Grind.{flat_map-append}
 use Rattle.std.specs.Prelude.{IfSome}

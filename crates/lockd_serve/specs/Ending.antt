@@ -1,9 +1,11 @@
 -- How a server ends: where the trace of its session is, what it tells, and its status.
-use Rattle.std.specs.Prelude.{◌≡◌, ◌⊎◌, ℕ, Bool, true, false, List, Option, None, Some, option_map, ⊤}
+use Rattle.std.specs.Prelude.{◌≡◌, ◌⊎◌, ℕ, Bool, true, false, List, Option, None, Some, IfSome, option_map, ⊤}
 use Rattle.std.specs.Io.KnownBytes.{Appends, Keeps}
 use Rattle.fl_history.specs.declared.history.Line.{Line}
 use Rattle.fl_session.specs.declared.done.Done.{Done}
-use Rattle.fl_stream.specs.Streams.{IsBegun, Wrote, WroteSome}
+use Rattle.fl_stream.specs.Streams.{HoldsText, IsBegun, Wrote, WroteSome}
+use Rattle.fl_stream.specs.declared.manner.WhenWriterFails.{WhenWriterFails}
+use Rattle.fl_stream.specs.declared.manner.WhenWriterFails.TheVariants.{GoOn}
 use Rattle.fl_trace.specs.Text.{text_of}
 use Rattle.fl_transport.specs.Streams.{Streams}
 use Rattle.fl_transport.specs.declared.fault.Fault.{Fault as SessionFault}
@@ -74,16 +76,25 @@ LeavesTrace to.Nowhere contents done out out_now it back =
 LeavesTrace (to.Writer blank) contents done out out_now it back =
     Keeps out out_now × ((writer : _) × (back ≡ Some writer) × Traces contents done it writer)
 
+-- A writer has the text of the stored lines, with or without more behind it. This isn't said if orders go on without
+-- it.
+abbrev pub HasStored : {T : Type 0} → WhenWriterFails → (T → Option (List ℕ)) → List Line → T → Type 0
+HasStored GoOn contents stored writer = ⊤
+HasStored when_full contents stored writer = HoldsText contents (contents writer) stored
+
 -- A session was served, and this is what the server leaves of it. All speaks of one and the same session: what was read
--- and written, its history, its trace, its fault and the status.
-pub record IsOver {S T : Type 0} (workers : ℕ) (rules : Rules) (trace : TraceTo S) (contents : T → Option (List ℕ))
-    (streams : Streams) (out out_now : Option (List ℕ)) (it : Ending) (back : Option T) : Type 0 where
+-- and written, its history, the lines of it that are stored, its trace, its fault and the status. If it has no history,
+-- a trace's writer is gone, and only the session's fault is told.
+pub record IsOver {S T : Type 0} (workers : ℕ) (rules : Rules) (trace : TraceTo S) (when_full : WhenWriterFails)
+    (contents : T → Option (List ℕ)) (streams : Streams) (out out_now : Option (List ℕ)) (it : Ending)
+    (back : Option T) : Type 0 where
   pub done : Done
   pub stored : List Line
   pub served : HasServed workers rules streams stored done
   pub traced : has_history done.fault ≡ true → LeavesTrace trace contents done out out_now it back
   pub untraced : has_history done.fault ≡ false
       → (back ≡ None) × Keeps out out_now × Ends (told_of done.fault) it
+  pub there : IfSome back (HasStored when_full contents stored)
 
 -- The trace of these lines is whole, wherever it goes: all of its text was printed, or its writer has that and nothing
 -- else.
@@ -95,10 +106,12 @@ IsWhole (to.Writer blank) contents lines out out_now back =
     (writer : _) × (back ≡ Some writer) × Wrote contents (contents writer) (text_of lines)
 
 -- A session was served to its end, no read or write of it failed, and its trace is whole.
-pub record WentWell {S T : Type 0} (workers : ℕ) (rules : Rules) (trace : TraceTo S) (contents : T → Option (List ℕ))
-    (streams : Streams) (out out_now : Option (List ℕ)) (back : Option T) : Type 0 where
+pub record WentWell {S T : Type 0} (workers : ℕ) (rules : Rules) (trace : TraceTo S) (when_full : WhenWriterFails)
+    (contents : T → Option (List ℕ)) (streams : Streams) (out out_now : Option (List ℕ)) (back : Option T)
+    : Type 0 where
   pub done : Done
   pub stored : List Line
   pub served : HasServed workers rules streams stored done
   pub faultless : done.fault ≡ None
   pub whole : IsWhole trace contents done.history out out_now back
+  pub there : IfSome back (HasStored when_full contents stored)

@@ -1,25 +1,28 @@
-//! Lines that are stored in a file before replies leave.
+//! Lines that a writer has before replies leave.
 
-ghost use Rattle.std.specs.Prelude.{◌≡◌};
+ghost use Rattle.std.specs.Prelude.{◌≡◌, ◌≢◌, [], IfOk};
 ghost use mathlib.Core.List.{IsPrefix};
-ghost use Rattle.fl_stream.specs.Streams.{IsAs};
+ghost use Rattle.fl_stream.specs.Streams.{IsAs, IsBlank};
+ghost use Rattle.fl_stream.specs.declared.manner.WhenWriterFails.TheVariants as manner;
 ghost use Rattle.fl_trace.specs.Text.{text_of};
 
 use fl_history::{Journal, Line, Past};
 use fl_order::{NoMemory, Order, Told};
+use fl_serve::Recorded;
 use fl_stream::{StreamRoom, Streamed, WhenWriterFails};
+use std::alloc::Global;
 use std::io::Write;
 use std::marker::Model;
 
-/// Lines that go to a file's writer as their text, behind those that it has. They are stored once it has their text.
-/// Contracts see the stream.
+/// Lines that go to a writer as their text. They are stored once it has that, and it isn't gone on without. Contracts
+/// see the stream.
 #[derive(Drop)]
 pub(crate) struct AheadLines<T: Write> {
     stream: Streamed<T>,
 }
 
 impl<T: Write> Model for AheadLines<T> {
-    ghost use Rattle.std.specs.Prelude.{◌≡◌};
+    ghost use Rattle.std.specs.Prelude.{◌≢◌};
     ghost use Rattle.fl_stream.specs.Streams.{Stream};
     ghost use Rattle.fl_stream.specs.declared.manner.WhenWriterFails.TheVariants as manner;
 
@@ -27,10 +30,27 @@ impl<T: Write> Model for AheadLines<T> {
 
     ghost view = { λ a. a.stream };
 
-    ghost invariant = { λ a. a.stream.manner ≡ manner.End };
+    ghost invariant = { λ a. a.stream.manner ≢ manner.GoOn };
 }
 
 impl<T: Write> AheadLines<T> {
+    /// No lines, before a writer that has nothing yet.
+    pub(crate) fn new(
+        alloc: Global,
+        writer: T,
+        when_full: WhenWriterFails,
+    ) -> Result<AheadLines<T>, NoMemory>
+    where
+        T: Drop,
+        requires blank { IsBlank (T.contents writer) }
+        requires ahead { when_full ≢ manner.GoOn }
+        ensures lines { IfOk result (λ made. made.lines ≡ []) }
+    {
+        Ok(AheadLines {
+            stream: Streamed::new(alloc, writer, when_full)?,
+        })
+    }
+
     /// These lines, before a writer that has their text and nothing more.
     pub(crate) fn behind(room: StreamRoom, writer: T, base: &Past<Line>) -> AheadLines<T>
         requires there { IsAs (T.contents writer) (text_of base.now.items) }
@@ -82,5 +102,21 @@ impl<T: Write> Journal for AheadLines<T> {
 
     fn store_if_due(&mut self) -> bool {
         self.stream.store_if_due()
+    }
+}
+
+/// The same, of the stream itself.
+pub(crate) fn streamed<T: Write>(recorded: Recorded<AheadLines<T>>) -> Recorded<Streamed<T>>
+    ensures { result ≡ recorded }
+{
+    let Recorded {
+        journal,
+        fault,
+        refused,
+    } = recorded;
+    Recorded {
+        journal: journal.map(AheadLines::into_stream),
+        fault,
+        refused,
     }
 }

@@ -1,10 +1,10 @@
 //! How `lockd serve` ends once its session is over: where its trace goes, and which faults are told.
 
-ghost use Rattle.std.specs.Prelude.{◌≡◌, ◌≢◌, true, false, None, Some, IsTrue, MatchOption};
+ghost use Rattle.std.specs.Prelude.{◌≡◌, ◌≢◌, true, false, None, Some, IfSome, IsTrue, MatchOption};
 ghost use Rattle.std.specs.Io.KnownBytes.{Appends, Keeps};
-ghost use Rattle.fl_stream.specs.Streams.{Wrote};
+ghost use Rattle.fl_stream.specs.Streams.{HoldsText, Wrote};
 ghost use Rattle.fl_trace.specs.Text.{text_of};
-ghost use Rattle.fl_session.specs.Recorded.{done_of};
+ghost use Rattle.fl_session.specs.Recorded.{done_of, journal_lines};
 ghost use Rattle.fl_transport.specs.declared.fault.Fault.{Fault as SessionFault};
 ghost use Rattle.lockd_faults.specs.declared.fault.CommandFault.{CommandFault};
 ghost use Rattle.lockd_serve.specs.Behind.{EndsBehind};
@@ -84,6 +84,7 @@ pub(crate) fn end_printed<W: Write, F: Write>(
 
 /// Ends a session whose trace went to a writer: prints its fault, and that the trace failed if the writer lacks some of
 /// it. The writer comes back if the session has a history.
+#[tactic(auto, using(crate::proofs::Stored::fewer_there))]
 pub(crate) fn end_streamed<T: Write + Drop, F: Write>(
     faults: &mut F,
     recorded: Recorded<Streamed<T>>,
@@ -104,6 +105,8 @@ pub(crate) fn end_streamed<T: Write + Drop, F: Write>(
         }) }
     ensures good { result.0 ≡ Status.Good → (recorded.fault ≡ None) × ((writer : T) × (result.1 ≡ Some writer)
         × Wrote T.contents (T.contents writer) (text_of (done_of (λ stream. stream.lines) recorded).history)) }
+    ensures noted { IfSome result.1 (λ writer. HoldsText T.contents (T.contents writer)
+        (journal_lines (λ stream. stream.noted) recorded.journal)) }
     ensures memory { result.0 ≡ Status.Faulted CommandFault.NoMemory → recorded.fault ≡ Some SessionFault.NoMemory }
     ensures heard { result.0 ≢ Status.Faulted CommandFault.Listen }
 {

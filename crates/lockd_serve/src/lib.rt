@@ -14,9 +14,9 @@
 //! They let through:
 //! - a `serve_stream` that says `no memory` and serves nobody, or says wrongly that the output failed, or that the
 //!   trace's writer did, then perhaps in place of its own fault;
-//! - one that does with lines what another `when_full` says;
-//! - one that shuts its socket down before the session, only once the trace is printed, or not at all, or reads and
-//!   writes there itself; a `resume_stream` that does so, too;
+//! - one that does with lines what another `when_full` says, but at `Refuse` and `End` not what `GoOn` says;
+//! - one that hangs up before the session, only once the trace is printed, or not at all; a `resume_stream` that does
+//!   so, too;
 //! - one of these that prints a fault in part, or not at all, and what `fl_session`, `fl_serve`, `fl_stream` and
 //!   `lockd_streams` let through;
 //! - a `serve_on` that always says `cannot listen`, or serves something else than the connection;
@@ -41,6 +41,7 @@
 mod ahead;
 mod behind;
 mod ending;
+mod hang_up;
 pub mod laws;
 mod options;
 mod point;
@@ -53,6 +54,7 @@ mod unused;
 pub use behind::ResumedRun;
 pub use ending::end_unopened;
 pub use fl_stream::WhenWriterFails;
+pub use hang_up::HangUp;
 pub use lockd_streams::{
     Announcing, Observer, Parting, Untraced, WhenUnwritten, end_without_file, is_at,
 };

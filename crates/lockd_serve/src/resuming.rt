@@ -9,25 +9,24 @@ ghost use Rattle.lockd_serve.specs.Resumed.{IsOverBehind, lines_at};
 
 use crate::behind::{ResumedRun, resume};
 use crate::ending::end_resumed;
+use crate::hang_up::{HangUp, hang_up_if};
 use crate::point::ResumePoint;
-use crate::serving::hang_up_if;
 use lockd_faults::Status;
 use std::io::{Read, Write};
-use std::os::unix::net::UnixStream;
 
 /// Serves a session that goes on from this point, with one worker: what the client sends is read from `r`, and the
 /// replies go to `w`. `file` has the text of the point's lines and nothing more. The replies that they lack are written
 /// to it first, and then the lines of each order before any of its replies leaves. If `r` and `w` are those of a
-/// socket, it is shut down once the session is over.
+/// connection, it is hung up once the session is over.
 ///
 /// A fault is one line on `faults`. Behind the session's fault it is told that the trace failed, if the file lacks
 /// lines.
-pub fn resume_stream<I: Read, C: Write, T: Write + Drop, F: Write>(
+pub fn resume_stream<I: Read, C: Write, T: Write + Drop, H: HangUp, F: Write>(
     r: &mut I,
     w: &mut C,
     point: ResumePoint,
     file: T,
-    socket: Option<&UnixStream>,
+    connection: Option<&H>,
     faults: &mut F,
 ) -> (Status, ResumedRun<T>)
     requires there { IsAs (T.contents file) (text_of point.resumed.past.items) }
@@ -52,7 +51,7 @@ pub fn resume_stream<I: Read, C: Write, T: Write + Drop, F: Write>(
     ensures memory { result.0 ≢ Status.Faulted CommandFault.NoMemory }
 {
     let run = resume(r, w, point, file);
-    hang_up_if(socket);
+    hang_up_if(connection);
     let status = end_resumed(faults, run.fault, run.whole);
     (status, run)
 }

@@ -51,14 +51,14 @@ pub fn serve_on<
 
     // Some `streams`: no clause ties them to the connection.
     ensures over { ¬ ServesNobody result.0 → (streams : Streams)
-        × IsOver options.workers options.rules options.trace T.contents streams
+        × IsOver options.workers options.rules options.trace options.when_full T.contents streams
         (W.contents output.old) (W.contents output.new) (record {
           status = result.0;
           told = F.contents faults.old;
           told_now = F.contents faults.new;
         }) result.1 }
     ensures good { result.0 ≡ Status.Good → (streams : Streams)
-        × WentWell options.workers options.rules options.trace T.contents streams
+        × WentWell options.workers options.rules options.trace options.when_full T.contents streams
         (W.contents output.old) (W.contents output.new) result.1 }
     ensures nothing { (fault : CommandFault) → result.0 ≡ Status.Faulted fault → ServesNobody result.0
         → LeavesNothing fault (W.contents output.old) (W.contents output.new) (record {

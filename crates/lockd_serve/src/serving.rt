@@ -10,7 +10,9 @@ ghost use Rattle.lockd_serve.specs.Ending.{IsOver, WentWell, has_history};
 ghost use Rattle.lockd_serve.specs.Served.{HasServed};
 ghost use Rattle.lockd_serve.specs.Unserved.{LeavesNothing};
 
+use crate::ahead::{AheadLines, streamed};
 use crate::ending::{end_printed, end_session, end_streamed};
+use crate::hang_up::{HangUp, hang_up_if};
 use crate::options::{ServeOptions, TraceTo};
 use fl_history::{Journal, Lines, NoJournal};
 use fl_serve::{OpenGate, Recorded, Staff, record_session, record_with_workers};
@@ -18,26 +20,27 @@ use fl_stream::{Streamed, TraceRoom, WhenWriterFails};
 use lockd_faults::{CommandFault, Status, end};
 use std::alloc::Global;
 use std::io::{Read, Write};
-use std::net::Shutdown;
-use std::os::unix::net::UnixStream;
 use std::sync::Wait;
 use std::thread::Threads;
 
 /// Serves a session as these options say: what the client sends is read from `r`, and the replies go to `w`. One
-/// worker serves it all in this thread. If they are those of a socket, it is shut down once the session is over.
+/// worker serves it all in this thread. If they are those of a connection, it is hung up once the session is over.
 ///
 /// A trace that is printed is written to `output` once the session is over. With a trace that goes nowhere or to a
-/// writer nothing is printed. A writer gets the trace as orders come. If it can't be written, orders go on without a
-/// trace or are refused, as `when_full` says. All memory but that of the history is made before the first read.
+/// writer nothing is printed. A writer gets the trace as orders come. If it can't be written, `when_full` says what
+/// happens. All memory but that of the history is made before the first read.
 ///
 /// A fault is one line on `faults`, after the trace. The session's fault comes first, and `trace failed` after it if
 /// the trace's writer lacks some. If the output can't be written, `write failed` is told in place of both. The trace's
-/// writer comes back if the session has a history.
+/// writer comes back if the session has a history. At `no reader` it has none: the writer is dropped with what it has,
+/// and `trace failed` isn't told.
+#[tactic(auto, using(crate::proofs::AheadLemmas::goes_on, crate::proofs::AheadLemmas::holds))]
 pub fn serve_stream<
     R: Threads + Wait + Sync,
     I: Read,
     C: Write + Send + Drop,
     T: Write + Send + Drop,
+    H: HangUp,
     W: Write,
     F: Write,
 >(
@@ -46,14 +49,14 @@ pub fn serve_stream<
     r: &mut I,
     w: &mut C,
     options: ServeOptions<T>,
-    socket: Option<&UnixStream>,
+    connection: Option<&H>,
     output: &mut W,
     faults: &mut F,
 ) -> (Status, Option<T>)
     requires workers { (0 < options.workers) × (options.workers ≤ 16) }
     requires blank { (writer : T) → options.trace ≡ TraceTo.Writer writer → IsBlank (T.contents writer) }
     ensures over { result.0 ≢ Status.Faulted CommandFault.NoMemory
-        → IsOver options.workers options.rules options.trace T.contents (record {
+        → IsOver options.workers options.rules options.trace options.when_full T.contents (record {
           left = I.remaining r.old;
           left_now = I.remaining r.new;
           held = C.contents w.old;
@@ -66,7 +69,7 @@ pub fn serve_stream<
 
     // A good status says that all was served, written and traced.
     ensures good { result.0 ≡ Status.Good
-        → WentWell options.workers options.rules options.trace T.contents (record {
+        → WentWell options.workers options.rules options.trace options.when_full T.contents (record {
           left = I.remaining r.old;
           left_now = I.remaining r.new;
           held = C.contents w.old;
@@ -103,37 +106,32 @@ pub fn serve_stream<
                 return (end(faults, Err(CommandFault::NoMemory)), None);
             };
             let recorded = record(rt, alloc, r, w, staff, Lines::new(alloc));
-            hang_up_if(socket);
+            hang_up_if(connection);
             let done = recorded.into_done(alloc);
             (end_printed(&mut room, &done, output, faults), None)
         }
         TraceTo::Nowhere => {
             let recorded = record(rt, alloc, r, w, staff, NoJournal::new());
-            hang_up_if(socket);
+            hang_up_if(connection);
             (end_session(faults, recorded.fault), None)
         }
-        TraceTo::Writer(writer) => {
+        TraceTo::Writer(writer) if when_full == WhenWriterFails::GoOn => {
             let Ok(journal) = Streamed::new(alloc, writer, when_full) else {
                 return (end(faults, Err(CommandFault::NoMemory)), None);
             };
             let recorded = record(rt, alloc, r, w, staff, journal);
-            hang_up_if(socket);
+            hang_up_if(connection);
             end_streamed(faults, recorded)
         }
+        TraceTo::Writer(writer) => {
+            let Ok(journal) = AheadLines::new(alloc, writer, when_full) else {
+                return (end(faults, Err(CommandFault::NoMemory)), None);
+            };
+            let recorded = record(rt, alloc, r, w, staff, journal);
+            hang_up_if(connection);
+            end_streamed(faults, streamed(recorded))
+        }
     }
-}
-
-/// Ends a connection, if there is one: its client hears that before the trace is printed, which may take until somebody
-/// reads it.
-pub(crate) fn hang_up_if(socket: Option<&UnixStream>) {
-    if let Some(socket) = socket {
-        hang_up(socket);
-    }
-}
-
-// Ends a connection.
-fn hang_up(socket: &UnixStream) {
-    let _ = socket.shutdown(Shutdown::Both);
 }
 
 // Serves a session by so many workers, whose lines go to this journal.

@@ -6,7 +6,7 @@ pub returns-then-staff-eq1-clause-served : goal.returns-then-staff-eq1-clause-se
 returns-then-staff-eq1-clause-served g c =
     let did = c.record_session-recorded in
     alone g.J.Journal.lines g.J.Journal.stored c.args.staff.workers c.args.staff.rules _ did.result.1 did.result.0 c.if-staff-eq1.true
-    did.ensures.legal did.ensures.served
+    did.ensures.legal did.ensures.served did.ensures.ahead did.ensures.back did.ensures.unwritten
 
 pub returns-clause-served : goal.returns-clause-served
 returns-clause-served g c =
