@@ -3,7 +3,7 @@
 //! can't be written, are contracts (`opened`, `when_full`). Contracts let through:
 //! - a `run` that runs another command than is asked for;
 //! - a function of a command (`script` .. `drive`, `serve`, `serve_opened`, `resume`) that gives it other rules, flags
-//!   or workers, another path, or another trace than `opened` made;
+//!   or workers, another path, another `when_full`, or another trace than `opened` made, or has another status;
 //! - an `opened` or a `resume` whose file is at another path, or that is always refused; a `made` that writes over a
 //!   file that is there, or one of them that doesn't append;
 //! - a `remove_unused` that takes away the trace's file of a session that was served, or another's file, or leaves one

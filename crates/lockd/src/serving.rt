@@ -1,6 +1,6 @@
 //! `lockd serve`.
 
-ghost use Rattle.std.specs.Prelude.{◌≡◌, ◌↔◌, ◌≤◌, ◌<◌, Some, IfErr, IfOk, OnOk};
+ghost use Rattle.std.specs.Prelude.{◌≡◌, ◌≢◌, ◌↔◌, ◌≤◌, ◌<◌, Some, IfErr, IfOk, OnOk};
 ghost use Rattle.std.specs.Io.KnownBytes.{Keeps};
 ghost use Rattle.lockd.specs.Inside.{AsksFile, AsksRefusal, GoesWhere};
 ghost use Rattle.lockd_serve.specs.Ending.{Ends};
@@ -211,7 +211,9 @@ fn end_traced<F: Write>(
     status: Status,
     faults: &mut F,
     words: &mut Words<'_>,
-) -> Status {
+) -> Status
+    ensures bad { status ≢ Status.Good → result ≡ status }
+{
     match (trace, &written) {
         (Trace::File(file, _), Some(written))
             if !is_at(rt, Path::new(file.as_str()), written.file()) => {
@@ -246,7 +248,8 @@ fn remove_unused(rt: &HostRuntime, trace: &Trace, made: &Option<File>, status: S
 
 // What happens to orders when the trace's file can't be written.
 fn when_full(trace: &Trace) -> WhenWriterFails
-    ensures { result ≡ WhenWriterFails.Refuse ↔ AsksRefusal trace.now }
+    ensures refuse { result ≡ WhenWriterFails.Refuse ↔ AsksRefusal trace.now }
+    ensures goes_on { ¬ AsksRefusal trace.now → result ≡ WhenWriterFails.GoOn }
 {
     match trace {
         Trace::File(_, WhenFull::Refuse) => WhenWriterFails::Refuse,

@@ -28,9 +28,9 @@ use std::thread::Threads;
 ///
 /// A trace that is printed is written once the session is over, and a fault is one line on `faults` after it. With a
 /// trace that goes nowhere or to a writer nothing is printed. A writer gets the trace as orders come. If it can't be
-/// written, orders go on without a trace or are refused, as `when_full` says. At the end `faults` gets `trace failed`,
-/// after a fault of the session if there is one. The writer comes back if the session has a history, with the text of a
-/// beginning of its history. The observer is told what the server does, and after a fault why it serves nobody.
+/// written, `when_full` says what happens. At the end `faults` gets `trace failed`, after a fault of the session if
+/// there is one. The writer comes back if the session has a history, with the text of a beginning of its history. The
+/// observer is told what the server does, and after a fault why it serves nobody.
 pub fn serve_on<
     R: Threads + Wait + Net + Files + Sync,
     T: Write + Send + Drop,

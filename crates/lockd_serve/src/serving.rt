@@ -28,7 +28,7 @@ use std::thread::Threads;
 ///
 /// A trace that is printed is written to `output` once the session is over. With a trace that goes nowhere or to a
 /// writer nothing is printed. A writer gets the trace as orders come. If it can't be written, `when_full` says what
-/// happens. All memory but that of the history is made before the first read.
+/// happens. All memory but that of the history, and of copies that looks read, is made before the first read.
 ///
 /// A fault is one line on `faults`, after the trace. The session's fault comes first, and `trace failed` after it if
 /// the trace's writer lacks some. If the output can't be written, `write failed` is told in place of both. The trace's
