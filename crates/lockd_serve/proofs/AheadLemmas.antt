@@ -63,5 +63,6 @@ is_over workers by rules under trace when_full contents streams out it back reco
       served = subst (λ r. HasServed workers r streams stored done) under_is ours;
       traced = λ some. subst (λ t. LeavesTrace t contents done out out it back) (sym at) (Keeps-refl out, traced some);
       untraced = λ none. ((untraced none).0, Keeps-refl out, (untraced none).1);
+      unstored = λ _. (blank, at);
       there = holds contents when_full stored back ahead noted;
     }

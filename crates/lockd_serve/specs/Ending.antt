@@ -84,7 +84,8 @@ HasStored when_full contents stored writer = HoldsText contents (contents writer
 
 -- A session was served, and this is what the server leaves of it. All speaks of one and the same session: what was read
 -- and written, its history, the lines of it that are stored, its trace, its fault and the status. If it has no history,
--- a trace's writer is gone, and only the session's fault is told.
+-- a trace's writer is gone, and only the session's fault is told. It ends for lines that aren't stored only if a writer
+-- gets the trace.
 pub record IsOver {S T : Type 0} (workers : ℕ) (rules : Rules) (trace : TraceTo S) (when_full : WhenWriterFails)
     (contents : T → Option (List ℕ)) (streams : Streams) (out out_now : Option (List ℕ)) (it : Ending)
     (back : Option T) : Type 0 where
@@ -94,6 +95,7 @@ pub record IsOver {S T : Type 0} (workers : ℕ) (rules : Rules) (trace : TraceT
   pub traced : has_history done.fault ≡ true → LeavesTrace trace contents done out out_now it back
   pub untraced : has_history done.fault ≡ false
       → (back ≡ None) × Keeps out out_now × Ends (told_of done.fault) it
+  pub unstored : done.fault ≡ Some session.Unstored → (writer : S) × (trace ≡ to.Writer writer)
   pub there : IfSome back (HasStored when_full contents stored)
 
 -- The trace of these lines is whole, wherever it goes: all of its text was printed, or its writer has that and nothing
