@@ -291,10 +291,6 @@ received_as left before now fault told put all goodbye other sent own own_now go
 pub all_pushed : {X : Type 0} (P : X → Type 0) (xs ys : List X) (x : X) → ys ≡ xs ++ x ∷ [] → All P xs → P x → All P ys
 all_pushed P xs ys x is all this = subst (All P) (sym is) (All-push P xs x all this)
 
--- nothing came yet from a list
-pub none_so_far : {X Y : Type 0} (done : List X) (rest : List Y) → done ≡ [] → length done + length rest ≡ length rest
-none_so_far done rest none = omega (arith, ap length none)
-
 -- one more came from a list
 pub one_so_far : {X Y : Type 0} (done done_now : List X) (x : X) (rest rest_now : List Y) (y : Y) (all : ℕ)
     → length done + length rest ≡ all → done_now ≡ done ++ x ∷ [] → rest ≡ y ∷ rest_now

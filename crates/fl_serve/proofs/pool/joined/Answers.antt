@@ -2,19 +2,19 @@ use Rattle.std.proofs.Common.{rules, ◌≡◌, ◌∙◌}
 use Rattle.fl_board.specs.Seats.{Place}
 use Rattle.fl_intake.specs.Ends.{TakeSide}
 use Rattle.fl_serve.specs.Inside.Working.{IsFresh}
-use Rattle.fl_serve.proofs.WorkingLemmas.{all_pushed, first_and_rest, moves, none_back, none_so_far, one_back, one_so_far}
+use Rattle.fl_serve.proofs.WorkingLemmas.{all_pushed, first_and_rest, moves, none_back, one_back, one_so_far}
 use Rattle.fl_serve.proofs.WorkingLemmas.{room_for_one, room_stays, still_fewer}
 use Rattle.fl_serve.proofs.pool.joined.Goals as goal
 
 pub loop-thread-init : goal.loop-thread-init
 loop-thread-init g c =
     let none = c.requires.none in (
-      none_so_far _ _ none.0,
-      none_so_far _ _ none.1,
-      none_so_far _ _ none.2,
+      search rules,
+      search rules,
+      search rules,
       c.requires.room,
       search rules,
-      c.requires.fresh,
+      search rules,
       search rules,
       none_back _ _ _ _ _ _ none.2 none.0 none.1 c.none-back.ensures.0 c.none-back.ensures.1,
     )
