@@ -1,9 +1,9 @@
 //! Laws of the definitions, in the words of their subject. Each is the contract of an empty function.
 //!
-//! The first three say what a server that was killed leaves, and from what the next one goes on. The fourth is the
-//! whole in a client's words: it uses each unique for one message, and sends again, with a mark, some of those that the
-//! first session took, and then all others. Five say the same in the words of sessions, and more of a cut inside a
-//! batch. The others say which replies come again, and how single messages meet the conditions.
+//! The first three say what a server that was killed leaves, and from what the next one goes on. The fourth says what
+//! becomes of orders, in a client's words: it uses each unique for one message, and sends again, with a mark, some of
+//! those that the first session took, and then all others. Five say the same in the words of sessions, and more of a
+//! cut inside a batch. The others say which replies come again, and how single messages meet the conditions.
 
 ghost use Rattle.std.specs.Prelude.{◌≡◌, ◌≤◌, ℕ, ◌+◌, true, false, All, Contains, List, [], ◌∷◌, ◌++◌, length, take};
 ghost use Rattle.std.specs.Prelude.{drop, Some, Ok};
@@ -63,9 +63,9 @@ pub fn to_know_marks_changes_nothing_without_one()
         → session_from (session_behind rules [] true) came ≡ record (session_of rules came) { resends = true } }
 {}
 
-/// A server goes on behind the lines of a session that was cut off. Until an INIT is agreed, it answers each message as
-/// any server does: also an INIT of another version, which a second one follows. Once one is agreed, it is as far as
-/// that session was, so it is the `resumed` of the laws below, with these replies in front.
+/// A server goes on behind the lines of a session that was cut off. Until an INIT is agreed, it answers each message
+/// without a mark as any server does: also an INIT of another version, which a second one follows. Once one is agreed,
+/// it is as far as that session was, so it is the `resumed` of the laws below, with these replies in front.
 pub fn a_server_that_goes_on_answers_its_init_first()
     ensures { (first : Session) (early : List Came) (init : Came) (came : List Came) → first.handshake ≡ under_way
         → (session_of first.rules early).handshake ≡ opening
@@ -84,8 +84,8 @@ pub fn a_server_that_goes_on_answers_its_init_first()
 /// those of `unread`, marked. What the session has of each that comes again is near: its request is parked, or the last
 /// lines say of it what all lines say, as they do of everything if there are at most 65,536. Then the lines of the
 /// session that goes on are those of one session of `early`, `taken` and `unread`: no order is taken twice, and none is
-/// left out. The same is so of a cut inside a batch, which comes again between the two. A reply that the first session
-/// gave to an order of `taken` is sent again if its message is.
+/// left out. The same is so of a cut inside a batch, which comes again between the two. If it wasn't cut inside one, a
+/// reply that the first session gave to an order of `taken` is sent again if its message is.
 pub fn a_client_that_sends_again_has_one_session()
     ensures one { (rules : Rules) (early taken again unread marked : List Came)
         → HasTaken (session_of rules early) taken unread
@@ -171,8 +171,8 @@ pub fn later_messages_are_as_in_one_session()
         → AreAsOne first (session_from other later) (session_from one later) again }
 {}
 
-/// The reply to an order, if it is among the last 65,536 lines, is sent again to its message. So is what the session
-/// itself answered to a message.
+/// The reply to an order whose unique no other line has, if it is among the last 65,536 lines, is sent again to its
+/// message. So is what the session itself answered to a message.
 pub fn a_reply_is_sent_again()
     ensures stored { (s : Session) (again : List Came) (c : Came) (told : Told) → HaveReply s.lines told
         → Contains again c → IsOrderAgain told.unique c.message

@@ -194,9 +194,7 @@ fn unbound<R: Files>(rt: &R, socket: &str, kind: ErrorKind, goes_on: bool) -> &'
 // What to do if a trace's file can't be opened or made, for a reason of this kind.
 fn unopened(kind: ErrorKind) -> &'static str {
     match kind {
-        ErrorKind::AlreadyExists => {
-            "something is there: choose another path, or go on behind a trace by --resume FILE"
-        }
+        ErrorKind::AlreadyExists => "something is there: choose another path",
         ErrorKind::IsADirectory => "a folder is there: choose a path in it",
         _ => in_folder(kind),
     }

@@ -47,7 +47,7 @@ IsBefore command.Trace = ⊤
 IsBefore command.Listen = ⊤
 IsBefore fault = ⊥
 
--- nobody was served, for a fault that is told
+-- a fault is told for which a server serves nobody; that nobody was served no clause sees
 pub record ServesNobodyBehind (it : Ending) : Type 0 where
   pub fault : CommandFault
   pub before : IsBefore fault

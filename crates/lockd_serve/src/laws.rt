@@ -54,8 +54,8 @@ pub fn what_is_read_of_a_cut_text_begins_its_lines()
     no_text_is_that_of_two_histories();
 }
 
-/// The text of a legal history was cut off. No line that is read of what is left is bad, or breaks the rules: only for
-/// memory, or since it can't be read, does no server go on behind it.
+/// The text of a legal history was cut off. No line that is read of what is left is bad, or breaks the rules:
+/// `resumed_from` refuses it only for memory, or since it can't be read.
 pub fn a_cut_text_of_a_legal_history_is_never_refused()
     ensures { (rules : Rules) (text : List ℕ) (all : List Line) (fault : CommandFault) → Fits all → IsLegal rules all
         → IsPrefix text (text_of all) → FileSays rules text fault
@@ -66,10 +66,11 @@ pub fn a_cut_text_of_a_legal_history_is_never_refused()
     no_text_is_that_of_two_histories();
 }
 
-/// A server with one worker was killed. Its file has a prefix of the text of its session's lines, and all text of those
-/// of its first messages: of those whose replies its client got. Then what is read of the file, with the replies that
-/// its last order lacks, are the lines of a session that took the first messages, some of the others, and perhaps a
-/// part of a batch.
+/// A server with one worker, which began behind no lines and to which no message was sent again, was killed. Its file
+/// has a prefix of the text of its session's lines, and all text of those of its first messages: of those whose replies
+/// its client got. Then what is read of the file, with the replies that its last order lacks, are the lines of a
+/// session that took the first messages, some of the others, and perhaps a part of a batch. Of a server that went on
+/// take the one session of `fl_session::laws`, whose lines it has.
 pub fn what_is_read_of_a_killed_servers_file_is_a_session()
     ensures { (rules : Rules) (first others : List Came) (text : List ℕ) (read : List Line) (bytes : ℕ)
         (missing : List Told) → All CanBeSaid (first ++ others) → IsPrefix (text_of (session_of rules first).lines) text

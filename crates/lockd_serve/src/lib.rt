@@ -22,10 +22,10 @@
 //! - a `serve_on` that always says `cannot listen`, or serves something else than the connection;
 //! - a `resumed_from` that is always refused, and what `fl_judge` lets through;
 //! - a `resume_stream` that says that the file isn't whole though it is, or writes nothing to it before a reply waits;
-//! - a `resume_on` that serves nobody and prints any of its faults or none, hands on no lines, or others than the
-//!   file's, or writes the new ones elsewhere;
-//! - one that cuts nothing off or too much, or a file whose lines differ or that may be no trace; that doesn't lock its
-//!   file, or only once it was read, or doesn't ask at the end whether it is there;
+//! - a `resume_on` that serves nobody, or a client all the same, and prints any of its faults or none, hands on no
+//!   lines, or others than the file's, or writes the new ones elsewhere;
+//! - one that cuts nothing off or too much, or a file at `no memory`, or one whose lines differ or that may be no
+//!   trace; that doesn't lock its file, or only once it was read, or doesn't ask at the end whether it is there;
 //! - a server that tells its observer something else than what it does, or nothing, or another reason.
 //!
 //! These tests refuse most of them:

@@ -39,8 +39,8 @@ const ASK: &[u8] = b"ask ";
 
 /// `lockd serve --resume`: goes on behind the lines of a trace's file, under these rules, with one worker. It listens
 /// as `serve_on` does, but a socket's file at the path is replaced if nobody listens at it. Nothing was read of the
-/// file, which gets what is written behind what it has, and `name` is its path. If another server has it, or it isn't
-/// there any more, the fault is `Trace`.
+/// file, which gets what is written behind what it has, and `name` is its path. If another server has it, it isn't
+/// there any more, is no regular file, or can't be locked or cut off, the fault is `Trace`.
 ///
 /// What follows the file's last newline is cut off, and the replies that its last order lacks are written to it. Then
 /// the lines of each order are written before any of its replies leaves. While a write fails, `when` says what happens,

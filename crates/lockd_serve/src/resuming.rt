@@ -47,7 +47,7 @@ pub fn resume_stream<I: Read, C: Write, T: Write + Drop, H: HangUp, F: Write>(
     // A good status says that all was served and written, and is in the file.
     ensures good { result.0 ≡ Status.Good → (result.1.fault ≡ None) × IsTrue result.1.whole }
 
-    // `no memory` is told before anything is read from the client, or written to it or to the file.
+    // It never tells `no memory`: `resumed_from` does, which has no client, and no file to write.
     ensures memory { result.0 ≢ Status.Faulted CommandFault.NoMemory }
 {
     let run = resume(r, w, point, file);

@@ -19,7 +19,7 @@
 //! - the file at the path, before a server listens: `try_paths_that_cannot_be_bound` of `tests/serve/sockets.py`;
 //! - the file at the path, once a client connects: `try_a_file_of_somebody_else` of `tests/serve/sockets.py`, and
 //!   `try_ends` of `tests/serve/sessions.py`;
-//! - files that go or can't be written: `tests/serve/traces.py`; old sockets: `tests/resume/kills.py`;
+//! - files that go or can't be written: `tests/serve/traces.py`, `tests/resume/files.py`, which tries old sockets, too;
 //! - when all is written again: `tests/commands/words.py`, `tests/commands/texts.py`.
 //!
 //! None sees a `file_at` that gives another number for the device, since all their files lie on one. None sees a
