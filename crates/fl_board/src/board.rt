@@ -243,8 +243,8 @@ impl<L: BoardName, R: Wait + Drop + Copy, J: Journal> Board<L, R, J> {
         }
     }
 
-    /// As `Seat::look`: it needs nothing of the board but what is published. Nothing is while nobody has looked for
-    /// many orders that were handed in together: then `warm` makes it anew.
+    /// As `Seat::look`: it needs nothing of the board but what is published. Nothing is once nobody has looked for many
+    /// orders that were handed in together: then `warm` makes it anew, and it stays.
     pub fn look(&self, seat: &mut Seat<L>, order: &Order) -> Result<Result<Answer, Errno>, NoView>
         requires { only_reads order.now.op ≡ true }
         ensures same { KeepsHanded seat.old seat.new }

@@ -26,6 +26,12 @@ impl Idle {
         }
     }
 
+    /// From here on it is never long. Copies that were made anew stay: else each thread that made some would keep
+    /// memory of its own for them.
+    pub(crate) fn end(&mut self) {
+        self.most = u64::MAX;
+    }
+
     /// So many orders come, and somebody looked since the last ones, or not: whether nobody has for long.
     pub(crate) fn is_long(&mut self, looked: bool, orders: usize) -> bool {
         let before = if looked { 0 } else { self.orders };

@@ -139,12 +139,14 @@ impl<L: BoardName, R: Wait + Drop + Copy, J: Journal> Shared<L, R, J> {
         }
     }
 
-    /// Makes what looks read anew, if it was let go, and gives the seat a reader of it. A refusal changes nothing.
+    /// Makes what looks read anew, if it was let go, and gives the seat a reader of it. It isn't let go again. A refusal
+    /// changes nothing.
     pub(crate) fn warm(&mut self, alloc: Global, seat: &mut Seat<L>) -> Result<(), NoMemory>
         ensures same { self.new ≡ self.old }
         ensures seat { seat.new ≡ seat.old }
     {
         self.record.warm(alloc)?;
+        self.idle.end();
         seat.reader = self.record.writer.reader()?;
         Ok(())
     }

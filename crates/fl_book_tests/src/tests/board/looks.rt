@@ -97,7 +97,7 @@ fn warms<L: BoardName, R: Wait>(rt: &R, board: &Board<L, &R>, seats: &mut [Seat<
     }
 }
 
-// A board takes sixteen orders, and 32 after a look.
+// A board takes sixteen orders, 32 after a look, and as many once copies were made anew.
 fn idle<L: BoardName, R: Wait + Abort>(
     rt: &R,
     alloc: Global,
@@ -118,16 +118,18 @@ fn idle<L: BoardName, R: Wait + Abort>(
     handed_in(rt, alloc, rules, &board, &mut seats, &batch, &[1; 16]);
     assert!(rt; !finds(&board, &mut seats));
     warms(rt, &board, &mut seats);
+    handed_in(rt, alloc, rules, &board, &mut seats, &batch, &[1; 16]);
+    handed_in(rt, alloc, rules, &board, &mut seats, &batch, &[1; 16]);
     assert!(rt; finds(&board, &mut seats));
     closed(rt, board, seats)
 }
 
-// With four slots, 24 orders are long enough.
+// With four slots, 24 orders are long enough. Copies that were made anew stay.
 #[test]
 fn looks_find_nothing_after_many_orders_until_copies_are_made_anew(rt: HostRuntime) {
     let limited = Rules::standard().with_limits(1, 1);
     let rules = limited.expect(&rt, "rules").with_files(1, 1);
     let rules = rules.expect(&rt, "rules");
     let history = idle::<Brand, _>(&rt, rt.alloc(), Blank::new(1), FreshLog::new(), rules);
-    has_lines(&rt, &history, 96);
+    has_lines(&rt, &history, 160);
 }
