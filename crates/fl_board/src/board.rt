@@ -128,7 +128,9 @@ impl<L: BoardName, R: Wait + Drop + Copy, J: Journal> Board<L, R, J> {
             All (λ seat. (seat.count ≡ 0) × (seat.handed ≡ []) × (seat.seen ≡ []) × (seat.stored ≡ [])) made.1.items) }
     {
         let (book, rest) = blank.open::<L>();
-        let shared = Shared::over(alloc, rt, journal, book, log, workers as usize, rules)?;
+        let Ok(shared) = Shared::over(alloc, rt, journal, book, log, workers as usize, rules) else {
+            return Err(OpenFault::NoMemory);
+        };
         let seats = seats_of(
             alloc,
             &shared.record.writer,
@@ -163,15 +165,16 @@ impl<L: BoardName, R: Wait + Drop + Copy, J: Journal> Board<L, R, J> {
         ensures room { tolds.new.room ≡ tolds.old.room }
         ensures refused { OnErr result ((seat.new ≡ seat.old) × (tolds.new ≡ tolds.old)) }
     {
-        let stored = {
+        let (taken, stored) = {
             let mut shared = self.shared.lock(rt);
-            shared.hand_in(seat, order, tolds)?;
-            shared.store_if_due(seat)
+            let taken = shared.hand_in(seat, order, tolds);
+            let stored = taken.is_err() || shared.store_if_due(seat);
+            (taken, stored)
         };
         if !stored {
             self.wait_until_stored(rt, seat);
         }
-        Ok(())
+        taken
     }
 
     /// Takes orders of the seat's worker one after another under one lock, each as `hand_in` does, and then publishes
@@ -219,8 +222,7 @@ impl<L: BoardName, R: Wait + Drop + Copy, J: Journal> Board<L, R, J> {
     {
         for _ in rt.forever() {
             pause(rt);
-            let mut shared = self.shared.lock(rt);
-            if shared.store_if_due(seat) {
+            if self.shared.lock(rt).store_if_due(seat) {
                 return;
             }
         }
@@ -262,7 +264,7 @@ impl<L: BoardName, R: Wait + Drop + Copy, J: Journal> Board<L, R, J> {
     {
         self.note_look();
         let mut shared = self.shared.lock(rt);
-        let _ = shared.warm(self.alloc, seat);
+        shared.warm(self.alloc, seat);
     }
 
     /// Shows two workers all that both handed in and were shown: looks of either show the orders of both from now on.
@@ -394,12 +396,14 @@ fn seats_of<L: BoardName, R: Wait + Drop + Copy>(
         All (λ seat. (seat.count ≡ 0) × (seat.handed ≡ []) × (seat.seen ≡ []) × (seat.stored ≡ [])) seats.items) }
 {
     let mut rest = parts;
-    let mut seats = Vec::with_capacity(alloc, workers as usize)?;
+    let Ok(mut seats) = Vec::with_capacity(alloc, workers as usize) else {
+        return Err(OpenFault::NoMemory);
+    };
     for worker in 0..workers {
-        let share = rest.split_off(1, 0);
         let Ok(reader) = writer.reader() else {
             return Err(OpenFault::NoReader);
         };
+        let share = rest.split_off(1, 0);
         seats.push_reserved(Seat {
             worker,
             share,

@@ -6,7 +6,6 @@ ghost use mathlib.Core.List.{IsPrefix};
 ghost use Rattle.fl_board.specs.Inside.Asks.{HasMostOf, history_of};
 ghost use Rattle.fl_board.specs.Shown.{AreHandedIn, IsHandedIn};
 ghost use Rattle.fl_core.specs.Tolds.{HasRoom};
-ghost use Rattle.fl_desk.specs.Legal.{IsLegal, LeavesLawful, orders_asked};
 ghost use Rattle.fl_log.specs.Longer.{IsLonger};
 ghost use Rattle.fl_log.specs.Asks.{ask_of};
 ghost use Rattle.fl_log.specs.declared.ask.Ask.{Ask as Handed};
@@ -22,8 +21,9 @@ use fl_log::{
 use fl_order::{NoMemory, Order};
 use std::alloc::Global;
 use std::marker::Model;
+use std::mem;
 use std::sync::Wait;
-use std::sync::ledger::{Book, Share};
+use std::sync::ledger::Book;
 
 /// One desk; the ledger's book, whose total is the number of orders in the desk's history; the log of what was handed
 /// in, and all of it; and the writer that publishes it. Contracts see the asks that were handed in, those that are
@@ -72,9 +72,14 @@ impl<L: BoardName, R: Wait + Drop + Copy, J: Journal> Record<L, R, J> {
         requires rules { rules ≡ L.rules }
         ensures { IfOk result (λ made. made ≡ record { asks = []; shown = Some []; stored = J.stored journal }) }
     {
+        let Ok(desk) = Desk::over(alloc, journal, rules) else {
+            return Err(NoMemory);
+        };
         let (log, all) = log.named::<L>();
-        let desk = Desk::over(alloc, journal, rules)?;
-        let writer = ReplicaWriter::new(alloc, rt, desk.present(), &all, readers, MOST_IN_BATCH)?;
+        let made = ReplicaWriter::new(alloc, rt, desk.present(), &all, readers, MOST_IN_BATCH);
+        let Ok(writer) = made else {
+            return Err(NoMemory);
+        };
         Ok(Record {
             desk,
             book: ledger,
@@ -205,27 +210,6 @@ impl<L: BoardName, R: Wait + Drop + Copy, J: Journal> Record<L, R, J> {
     {
         let _ = self.desk.store_all();
     }
-
-    /// The desk's journal, for the whole of the ledger.
-    pub(crate) fn into_journal(self, whole: &mut Share<L>) -> J
-        requires { whole.old.parts ≡ L.parts }
-        ensures lines { J.lines result ≡ history_of L.rules self.asks }
-        ensures stored { J.stored result ≡ self.stored }
-        ensures legal { IsLegal L.rules (J.lines result) }
-        ensures lawful { LeavesLawful L.rules (J.lines result) }
-        ensures counted { orders_asked (J.lines result) ≡ whole.old.amount }
-    {
-        let Record {
-            desk,
-            mut book,
-            log: _log,
-            all: _all,
-            writer: _writer,
-        } = self;
-        asks_lead();
-        book.audit(whole);
-        desk.into_journal()
-    }
 }
 
 // Makes room for an order's lines, and adds it to the log, which has to begin with all that its worker handed in and
@@ -251,8 +235,7 @@ fn entered<L: BoardName, J: Journal>(
     if !seat.begins(all) {
         return Err(HandFault::NoView);
     }
-    let before = all.again();
-    let Ok(()) = added(log, all, seat.worker, order) else {
+    let Ok(before) = added(log, all, seat.worker, order) else {
         return Err(HandFault::NoView);
     };
     Ok(before)
@@ -267,13 +250,14 @@ enum NotAdded<L: BoardName> {
     Longer(Beginning<L, Ask>),
 }
 
-// Adds a worker's order to the log, and to what is known of it.
+// Adds a worker's order to the log, and to what is known of it. It gives what was known before.
 fn added<L: BoardName>(
     log: &Log<L, Ask>,
     all: &mut Beginning<L, Ask>,
     worker: u32,
     order: &Order,
-) -> Result<(), NotAdded<L>>
+) -> Result<Beginning<L, Ask>, NotAdded<L>>
+    ensures before { IfOk result (λ before. before ≡ all.old) }
     ensures added { MatchResult result (λ _. all.new ≡ all.old ++ ask_of worker order.now ∷ [])
         (λ _. all.new ≡ all.old) }
     ensures full { result ≡ Err NotAdded.Full → 2 ^ 62 ≤ length all.old }
@@ -286,6 +270,5 @@ fn added<L: BoardName>(
     if !next.add::<Asking, AsAsk>(log, &Asking { worker, order }) {
         return Err(NotAdded::Longer(next));
     }
-    *all = next;
-    Ok(())
+    Ok(mem::replace(all, next))
 }

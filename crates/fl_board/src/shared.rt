@@ -27,7 +27,6 @@ use std::sync::ledger::{Book, Share};
 
 /// The record, of which all that was handed in is published. Contracts see the asks that were handed in, and a
 /// beginning of them whose lines the journal has stored.
-#[derive(Drop)]
 pub(crate) struct Shared<L: BoardName, R: Wait + Drop + Copy, J: Journal> {
     pub record: Record<L, R, J>,
     // What had been handed in when all lines were stored last, or didn't have to be.
@@ -47,6 +46,17 @@ impl<L: BoardName, R: Wait + Drop + Copy, J: Journal> Model for Shared<L, R, J> 
 
     ghost invariant = { λ s. IfSome s.record.shown (λ shown. shown ≡ s.record.asks)
         × IsPrefix (history_of L.rules s.stored) s.record.stored };
+}
+
+impl<L: BoardName, R: Wait + Drop + Copy, J: Journal + Drop> Drop for Shared<L, R, J> {
+    // One call for an owner, and not a step for each part.
+    fn drop(self) {
+        let Shared {
+            record: _record,
+            stored: _stored,
+            idle: _idle,
+        } = self;
+    }
 }
 
 impl<L: BoardName, R: Wait + Drop + Copy, J: Journal> Shared<L, R, J> {
@@ -70,7 +80,9 @@ impl<L: BoardName, R: Wait + Drop + Copy, J: Journal> Shared<L, R, J> {
         requires rules { rules ≡ L.rules }
         ensures { IfOk result (λ shared. shared ≡ record { asks = []; stored = [] }) }
     {
-        let record = Record::over(alloc, rt, journal, ledger, log, readers, rules)?;
+        let Ok(record) = Record::over(alloc, rt, journal, ledger, log, readers, rules) else {
+            return Err(NoMemory);
+        };
         let stored = record.all.again();
         Ok(Shared {
             record,
@@ -98,9 +110,9 @@ impl<L: BoardName, R: Wait + Drop + Copy, J: Journal> Shared<L, R, J> {
         if !self.store_waiting() {
             return Err(HandFault::NoMemory);
         }
-        self.record.take(seat, order, tolds)?;
+        let taken = self.record.take(seat, order, tolds);
         self.record.publish();
-        Ok(())
+        taken
     }
 
     /// Takes orders of the seat's worker, one after another, and publishes them together. They are refused while lines
@@ -139,16 +151,19 @@ impl<L: BoardName, R: Wait + Drop + Copy, J: Journal> Shared<L, R, J> {
         }
     }
 
-    /// Makes what looks read anew, if it was let go, and gives the seat a reader of it. It isn't let go again. A refusal
-    /// changes nothing.
-    pub(crate) fn warm(&mut self, alloc: Global, seat: &mut Seat<L>) -> Result<(), NoMemory>
+    /// Makes what looks read anew, if it was let go, and gives the seat a reader of it. It isn't let go again. If memory
+    /// runs out, looks find nothing still.
+    pub(crate) fn warm(&mut self, alloc: Global, seat: &mut Seat<L>)
         ensures same { self.new ≡ self.old }
         ensures seat { seat.new ≡ seat.old }
     {
-        self.record.warm(alloc)?;
+        if self.record.warm(alloc).is_err() {
+            return;
+        }
         self.idle.end();
-        seat.reader = self.record.writer.reader()?;
-        Ok(())
+        if let Ok(reader) = self.record.writer.reader() {
+            seat.reader = reader;
+        }
     }
 
     /// Shows two workers all that was handed in.
@@ -236,7 +251,16 @@ impl<L: BoardName, R: Wait + Drop + Copy, J: Journal> Shared<L, R, J> {
             stored: _stored,
             idle: _idle,
         } = self;
-        record.into_journal(whole)
+        let Record {
+            desk,
+            mut book,
+            log: _log,
+            all: _all,
+            writer: _writer,
+        } = record;
+        asks_lead();
+        book.audit(whole);
+        desk.into_journal()
     }
 }
 

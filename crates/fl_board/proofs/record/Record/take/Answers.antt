@@ -44,6 +44,21 @@ answered_as ours was order present lines told there had is same stands =
     ∙ ap (λ r. replies_in (state_after r (history_of ours was)) order) same
     ∙ ap (λ (p : Snapshot). replies p order) (sym stands)
 
+-- a refusal leaves all parts as they were, but what is stored
+pub invariant_of-self : goal.invariant_of-self
+invariant_of-self g c =
+    let ours = g.L.BoardName.rules in
+    let same : c.self.inside.all ≡ c.entered.new.all = sym c.in_err-before.ensures.refused in
+    let lines = c.entered.ensures.same.0 in (
+      c.self.invariant.0 ∙ same,
+      lines ∙ c.self.invariant.1 ∙ ap (history_of ours) same,
+      c.entered.ensures.same.1 ∙ c.self.invariant.2 ∙ ap (present_after ours) same,
+      c.self.invariant.3 ∙ ap orders_asked (sym lines),
+    )
+
+pub returns-in_err-before-clause-stored : goal.returns-in_err-before-clause-stored
+returns-in_err-before-clause-stored g c = rw (← c.self.view_is) c.entered.ensures.stored
+
 pub add-requires-2-clause-before : goal.add-requires-2-clause-before
 add-requires-2-clause-before g c = c.in_ok-before.ensures.before ∙ sym c.self.invariant.0
 

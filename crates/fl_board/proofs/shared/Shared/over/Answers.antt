@@ -4,7 +4,7 @@ use Rattle.fl_board.proofs.shared.Shared.over.Goals as goal
 
 pub invariant_of-result : goal.invariant_of-result
 invariant_of-result g c =
-    let made = c.in_ok-record.ensures in
+    let made = c.in-Ok.ensures in
     let none : c.again-stored.result ≡ [] =
     c.again-stored.ensures ∙ ap (λ (p : Recorded). p.asks) (c.record.view_is ∙ made) in
     (rw made refl, rw none (_, refl))
