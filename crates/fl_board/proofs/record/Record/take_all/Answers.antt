@@ -40,3 +40,23 @@ loop-order-preserved g c =
       lists = (c.push.ensures.room.0 ∙ so_far.lists.0, c.push.ensures.places ∙ so_far.lists.1);
       first = λ none. absurd (omega (arith, none));
     }
+
+pub take-requires : goal.take-requires
+take-requires g c = rw c.loop-order.invariant.room c.requires.room
+
+pub push-requires-clause-room : goal.push-requires-clause-room
+push-requires-clause-room g c =
+    let free = (c.if-not-has_room.ensures.0 refl).0 in
+    omega (arith, ap length c.as_slice.ensures, c.in_default.ensures.few, free, c.most_tolds-most.ensures)
+
+pub push-requires-clause-place : goal.push-requires-clause-place
+push-requires-clause-place g c = (c.if-not-has_room.ensures.0 refl).1
+
+pub returns-clause-some : goal.returns-clause-some
+returns-clause-some g c = λ some. omega (arith, some, c.loop-order.invariant.count, c.loop-order-test.false)
+
+pub returns-in-Err-clause-refused : goal.returns-in-Err-clause-refused
+returns-in-Err-clause-refused g c = omega (arith, c.loop-order.invariant.count, c.loop-order-test.true)
+
+pub returns-in-Err-clause-handed : goal.returns-in-Err-clause-handed
+returns-in-Err-clause-handed g c = rw c.in-Err.ensures.refused.0 c.loop-order.invariant.handed
