@@ -122,7 +122,10 @@ impl<L: BoardName, R: Wait + Drop + Copy, J: Journal> Record<L, R, J> {
             writer,
         } = self;
         asks_lead();
-        let before = entered(desk, log, all, seat, order)?;
+        let before = match entered(desk, log, all, seat, order) {
+            Ok(before) => before,
+            Err(fault) => return Err(fault),
+        };
         let Ok(()) = desk.take(seat.worker, order, tolds) else {
             unreachable!();
         };

@@ -48,7 +48,7 @@ answered_as ours was order present lines told there had is same stands =
 pub invariant_of-self : goal.invariant_of-self
 invariant_of-self g c =
     let ours = g.L.BoardName.rules in
-    let same : c.self.inside.all ≡ c.entered.new.all = sym c.in_err-before.ensures.refused in
+    let same : c.self.inside.all ≡ c.entered.new.all = sym c.in-Err.ensures.refused in
     let lines = c.entered.ensures.same.0 in (
       c.self.invariant.0 ∙ same,
       lines ∙ c.self.invariant.1 ∙ ap (history_of ours) same,
@@ -56,11 +56,11 @@ invariant_of-self g c =
       c.self.invariant.3 ∙ ap orders_asked (sym lines),
     )
 
-pub returns-in_err-before-clause-stored : goal.returns-in_err-before-clause-stored
-returns-in_err-before-clause-stored g c = rw (← c.self.view_is) c.entered.ensures.stored
+pub returns-in-Err-clause-stored : goal.returns-in-Err-clause-stored
+returns-in-Err-clause-stored g c = rw (← c.self.view_is) c.entered.ensures.stored
 
 pub add-requires-2-clause-before : goal.add-requires-2-clause-before
-add-requires-2-clause-before g c = c.in_ok-before.ensures.before ∙ sym c.self.invariant.0
+add-requires-2-clause-before g c = c.in-Ok.ensures.before ∙ sym c.self.invariant.0
 
 pub add-requires-2-clause-next : goal.add-requires-2-clause-next
 add-requires-2-clause-next g c =
@@ -69,9 +69,9 @@ add-requires-2-clause-next g c =
     let order = c.args.order.now in
     let worker = c.seat.inside.worker in
     let ask : Ask = record { worker = worker; order = order } in
-    let all = added_by was _ order _ worker (ap (λ (p : Place). p.worker) c.seat.view_is) c.in_ok-before.ensures.added in
+    let all = added_by was _ order _ worker (ap (λ (p : Place). p.worker) c.seat.view_is) c.in-Ok.ensures.added in
     ap (present_after ours) all ∙ present_more ours was ask
-    ∙ ap (λ asks. next (present_after ours asks) order) (sym c.in_ok-before.ensures.before)
+    ∙ ap (λ asks. next (present_after ours asks) order) (sym c.in-Ok.ensures.before)
 
 pub add-requires-2-clause-alone : goal.add-requires-2-clause-alone
 add-requires-2-clause-alone g c =
@@ -81,9 +81,9 @@ add-requires-2-clause-alone g c =
     let present = c.entered.ensures.same.1 ∙ c.self.invariant.2 in
     let lines = c.entered.ensures.same.0 ∙ c.self.invariant.1 in
     let leads = c.asks_lead.ensures in
-    let answered = answered_as ours was order _ _ _ present lines c.in-Ok.ensures.replies (leads.rules ours was) (leads.stands ours was) in
-    alone_of order c.own_alone.result c.take.new.tolds.told (replies (present_after ours c.in_ok-before.before) order) c.own_alone.ensures
-    (answered ∙ ap (λ asks. replies (present_after ours asks) order) (sym c.in_ok-before.ensures.before))
+    let answered = answered_as ours was order _ _ _ present lines c.in-Ok-take.ensures.replies (leads.rules ours was) (leads.stands ours was) in
+    alone_of order c.own_alone.result c.take.new.tolds.told (replies (present_after ours c.in-Ok.before) order) c.own_alone.ensures
+    (answered ∙ ap (λ asks. replies (present_after ours asks) order) (sym c.in-Ok.ensures.before))
 
 pub invariant_of-self-2 : goal.invariant_of-self-2
 invariant_of-self-2 g c =
@@ -92,17 +92,17 @@ invariant_of-self-2 g c =
     let order = c.args.order.now in
     let worker = c.seat.inside.worker in
     let ask : Ask = record { worker = worker; order = order } in
-    let all = added_by was _ order _ worker (ap (λ (p : Place). p.worker) c.seat.view_is) c.in_ok-before.ensures.added in
+    let all = added_by was _ order _ worker (ap (λ (p : Place). p.worker) c.seat.view_is) c.in-Ok.ensures.added in
     let present = c.entered.ensures.same.1 ∙ c.self.invariant.2 in
     let lines = c.entered.ensures.same.0 ∙ c.self.invariant.1 in
     let leads = c.asks_lead.ensures in
-    let answered = answered_as ours was order _ _ _ present lines c.in-Ok.ensures.replies (leads.rules ours was) (leads.stands ours was) in
+    let answered = answered_as ours was order _ _ _ present lines c.in-Ok-take.ensures.replies (leads.rules ours was) (leads.stands ours was) in
     let taken : c.take.new.self.lines ≡ history_of ours was ++ step_lines worker order c.take.new.tolds.told =
-    c.in-Ok.ensures.lines ∙ ap (λ l. l ++ step_lines worker order c.take.new.tolds.told) lines in (
+    c.in-Ok-take.ensures.lines ∙ ap (λ l. l ++ step_lines worker order c.take.new.tolds.told) lines in (
       c.add-2.ensures.asks,
       taken ∙ ap (λ t. history_of ours was ++ step_lines worker order t) answered ∙ sym (history_more ours was ask)
           ∙ ap (history_of ours) (sym all),
-      c.in-Ok.ensures.next ∙ ap (λ (p : Snapshot). next p order) present ∙ sym (present_more ours was ask) ∙ ap (present_after ours) (sym all),
+      c.in-Ok-take.ensures.next ∙ ap (λ (p : Snapshot). next p order) present ∙ sym (present_more ours was ask) ∙ ap (present_after ours) (sym all),
       c.add.ensures.total ∙ ap (λ n. n + 1) (c.self.invariant.3 ∙ ap orders_asked c.self.invariant.1)
           ∙ sym (ap orders_asked taken ∙ step_asks_one_order (history_of ours was) worker order c.take.new.tolds.told),
     )
@@ -114,8 +114,8 @@ invariant_of-seat g c =
     let order = c.args.order.now in
     let worker = c.seat.inside.worker in
     let ask : Ask = record { worker = worker; order = order } in
-    let added : c.again.result ≡ was ++ ask ∷ [] = c.again.ensures ∙ added_by was _ order _ worker (ap (λ (p : Place). p.worker) c.seat.view_is) c.in_ok-before.ensures.added in
-    let most = subst (λ (p : Place). HasMostOf (history_of ours was) p) (sym c.seat.view_is) (c.in_ok-before.ensures.most) in
+    let added : c.again.result ≡ was ++ ask ∷ [] = c.again.ensures ∙ added_by was _ order _ worker (ap (λ (p : Place). p.worker) c.seat.view_is) c.in-Ok.ensures.added in
+    let most = subst (λ (p : Place). HasMostOf (history_of ours was) p) (sym c.seat.view_is) (c.in-Ok.ensures.most) in
     let more : orders_by worker (history_of ours c.again.result) ≡ orders_by worker (history_of ours was) + 1 =
     ap (λ asks. orders_by worker (history_of ours asks)) added ∙ ap (orders_by worker) (history_more ours was ask)
     ∙ one_more_by worker (history_of ours was) order (replies (present_after ours was) order) in
@@ -133,12 +133,12 @@ returns-clause-handed g c =
     let order = c.args.order.now in
     let worker = c.seat.inside.worker in
     let ask : Ask = record { worker = worker; order = order } in
-    let added : c.again.result ≡ was ++ ask ∷ [] = c.again.ensures ∙ added_by was _ order _ worker (ap (λ (p : Place). p.worker) c.seat.view_is) c.in_ok-before.ensures.added in
+    let added : c.again.result ≡ was ++ ask ∷ [] = c.again.ensures ∙ added_by was _ order _ worker (ap (λ (p : Place). p.worker) c.seat.view_is) c.in-Ok.ensures.added in
     let present = c.entered.ensures.same.1 ∙ c.self.invariant.2 in
     let lines = c.entered.ensures.same.0 ∙ c.self.invariant.1 in
     let leads = c.asks_lead.ensures in
-    let answered = answered_as ours was order _ _ _ present lines c.in-Ok.ensures.replies (leads.rules ours was) (leads.stands ours was) in
-    let most = subst (λ (p : Place). HasMostOf (history_of ours was) p) (sym c.seat.view_is) (c.in_ok-before.ensures.most) in
+    let answered = answered_as ours was order _ _ _ present lines c.in-Ok-take.ensures.replies (leads.rules ours was) (leads.stands ours was) in
+    let most = subst (λ (p : Place). HasMostOf (history_of ours was) p) (sym c.seat.view_is) (c.in-Ok.ensures.most) in
     rw (← c.seat.view_is) (record {
       before = history_of ours was;
       handed = ap (history_of ours) added ∙ history_more ours was ask
@@ -151,3 +151,6 @@ returns-clause-handed g c =
       count = c.add.ensures.amount;
       recorded = (invariant_of-seat g c).1;
     })
+
+pub returns-clause-all : goal.returns-clause-all
+returns-clause-all g c = ap (history_of g.L.BoardName.rules) (sym c.again.ensures)

@@ -1,4 +1,4 @@
-use Rattle.std.proofs.Common.{rules, ◌≡◌, ◌<◌, ◌++◌, ◌∷◌, [], length, length-append, ap, refl, ◌∙◌, arith}
+use Rattle.std.proofs.Common.{rules, ◌≡◌, ◌<◌, ◌++◌, ◌∷◌, [], length, length-append, ap, refl, sym, ◌∙◌, arith}
 use Rattle.std.proofs.Math.ListN.{get_or}
 use Rattle.fl_board.proofs.Batches.{handed_more}
 use Rattle.fl_board.proofs.Prefixes.{of_another, of_itself}
@@ -6,10 +6,10 @@ use Rattle.fl_board.proofs.record.Record.take_all.Goals as goal
 
 pub loop-order-init : goal.loop-order-init
 loop-order-init g c = record {
-  handed = search rules;
+  handed = rw c.clear.ensures.none refl;
   stored = of_itself c.args.self.now.stored c.args.self.now.stored refl;
-  count = search rules;
-  room = search rules;
+  count = ap length c.clear.ensures.none;
+  room = refl;
   lists = search rules;
   first = search rules;
 }
@@ -27,9 +27,9 @@ loop-order-preserved g c =
     let told = c.take.new.tolds.told in
     let lists : c.push.new.self.lists ≡ before ++ told ∷ [] =
     c.push.ensures.lists ∙ ap (λ l. before ++ l ∷ []) c.as_slice.ensures in
-    let within : c.loop-order.order-index < length orders = search rules in
+    let within : c.loop-order.order-index < length orders = c.loop-order-test.true in
     let less : length before < length orders = omega (arith, so_far.count, within) in
-    let here : get_or orders c.loop-order.order-index order ≡ order = search rules in
+    let here : get_or orders c.loop-order.order-index order ≡ order = sym c.order-item.is in
     record {
       handed = rw lists (handed_more g.L.BoardName.rules c.args.seat.now c.loop-order.seat c.take.new.seat orders before order
           told less (ap (λ n. get_or orders n order) so_far.count ∙ here) c.take.ensures.worker c.in_default.ensures.handed

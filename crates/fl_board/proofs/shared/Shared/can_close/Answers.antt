@@ -1,4 +1,4 @@
-use Rattle.std.proofs.Common.{rules, ◌≡◌, ◌<◌, length, All, arith, refl, inl, inr, subst, List}
+use Rattle.std.proofs.Common.{rules, ◌≡◌, ◌<◌, length, All, arith, refl, inl, inr, subst, sym, List}
 use Rattle.std.proofs.Math.ListN.{get_or}
 use Rattle.std.proofs.lemmas.List.{take_more, take_all}
 use Rattle.std.proofs.lemmas.List.Elements.{All-push}
@@ -13,10 +13,10 @@ pub loop-seat-preserved : goal.loop-seat-preserved
 loop-seat-preserved g c =
     let ours = g.L.BoardName.rules in
     let seats = c.args.seats.now in
-    let lt : c.loop-seat.seat-index < length seats = search rules in
+    let lt : c.loop-seat.seat-index < length seats = c.loop-seat-test.true in
     let most : HasMostOf (history_of ours c.args.self.now.asks) c.seat-item.result = search rules in
     let stored : IsPrefix c.seat-item.result.stored (history_of ours c.args.self.now.stored) = search rules in
-    let is : get_or seats c.loop-seat.seat-index c.seat-item.result ≡ c.seat-item.result = search rules in
+    let is : get_or seats c.loop-seat.seat-index c.seat-item.result ≡ c.seat-item.result = sym c.seat-item.is in
     rw (take_more seats c.loop-seat.seat-index c.seat-item.result lt, is) (record {
       most = All-push (λ x. HasMostOf (history_of ours c.args.self.now.asks) x) _ _ c.loop-seat.invariant.most most;
       stored = All-push (λ x. IsPrefix x.stored (history_of ours c.args.self.now.stored)) _ _ c.loop-seat.invariant.stored stored;
@@ -44,8 +44,8 @@ returns-then-not-begins-clause-cant g c = λ f.
     let seats = c.args.seats.now in
     let i = c.loop-seat.seat-index in
     let seat = c.seat-item.result in
-    let lt : i < length seats = search rules in
-    let is : get_or seats i seat ≡ seat = search rules in
+    let lt : i < length seats = c.loop-seat-test.true in
+    let is : get_or seats i seat ≡ seat = sym c.seat-item.is in
     let legal = c.asks_lead.ensures.legal ours in
     inl (elim c.then-not-begins.branch [
       | then-not-begins-via-then-not-begins w ↦ short_at ours _ seats i seat (legal _) lt is w.if-not-begins.ensures.short
