@@ -218,6 +218,16 @@ impl Intake {
         self.waking.call_one_more();
     }
 
+    /// Nobody takes through this end from here on: whoever puts calls the others alone. `finish` still needs it.
+    pub fn rest(&self, _end: &TakeEnd) {
+        self.waking.rest();
+    }
+
+    /// Whether no job is inside, and nobody who takes is at work with one. Whoever puts may ask.
+    pub fn is_at_rest(&self) -> bool {
+        self.waking.is_at_rest()
+    }
+
     /// No more jobs may come through this end. Those inside are still taken. It waits for nobody.
     pub fn close(&self, end: &mut PutEnd)
         requires end { end.old.of ≡ self.now }

@@ -7,8 +7,9 @@
 //! - a `take_many` that takes one alone, or more than its share;
 //! - a `finish` that gives what is left in another order, a `new` that is always refused, and a call that waits for
 //!   ever, as a `put` would if boxes weren't set free;
-//! - one that wakes nobody or all, a `spin` or `call_one_more` that does nothing, a `close` that only marks its end.
-//! Tests refuse these. Only `fl_serve_tests` sees that nobody wakes a second worker.
+//! - one that wakes nobody or all, a `spin`, `rest` or `call_one_more` that does nothing, an `is_at_rest` that never is
+//!   true, or always, a `close` that only marks its end.
+//! Tests refuse these, but for an `is_at_rest` that is always true. Only `fl_serve_tests` sees that nobody wakes a second worker.
 #![tactic(auto)]
 
 mod ends;

@@ -24,6 +24,9 @@
 //! watch any more, and then checks once more. So no job is left to one that watches no longer.
 //!
 //! One worker spins for a while before it sleeps, since to be woken takes longer than an order. It counts as awake.
+//!
+//! An end may rest: it takes no job, also if all others are held up, and counts as announced for good. So a call may be
+//! in vain.
 
 use crate::intake::MOST_JOBS;
 use crossbeam_utils::CachePadded;
@@ -117,6 +120,23 @@ impl Waking {
         {
             self.call();
         }
+    }
+
+    /// An end takes no jobs from here on.
+    pub(crate) fn rest(&self) {
+        self.asleep.fetch_add(1, Ordering::SeqCst);
+    }
+
+    /// Nobody has a job, and none is inside: all are announced, but perhaps for one that spins. It is so if whoever puts
+    /// asks: it checks for jobs first, since nobody gets one later, and for who spins last, since that one announces itself
+    /// afterwards.
+    pub(crate) fn is_at_rest(&self) -> bool {
+        if self.has_jobs() {
+            return false;
+        }
+        let announced = self.asleep.load(Ordering::SeqCst);
+        let spinning = u64::from(self.spinning.load(Ordering::SeqCst));
+        announced.saturating_add(spinning) >= self.takers
     }
 
     // Calls one that is announced, if no other call is under way.

@@ -1,5 +1,6 @@
+pub mod CrewLemmas
 pub mod GrowingLemmas
 pub mod PartLemmas
-pub mod PostLemmas
+pub mod RunningLemmas
 pub mod ServingLemmas
 pub mod WorkingLemmas

@@ -1,7 +1,6 @@
 -- What a session with workers did.
-use Rattle.std.proofs.Common.{◌≡◌, ◌≢◌, ℕ, ◌+◌, ◌⊎◌, inl, inr, ⊎_elim, Bool, true, false, true≢false, List, [], ◌∷◌, ◌++◌}
-use Rattle.std.proofs.Common.{All, Option, Some, None, length, map, sum_by, refl, sym, ap, subst, ◌∙◌, arith, append-nil}
-use Rattle.std.proofs.Common.{length-append}
+use Rattle.std.proofs.Common.{◌≡◌, ◌≢◌, ℕ, ◌⊎◌, inl, inr, ⊎_elim, Bool, true, false, true≢false, List, [], ◌∷◌, ◌++◌}
+use Rattle.std.proofs.Common.{All, Option, Some, None, length, map, sum_by, refl, sym, ap, subst, ◌∙◌, arith}
 use Rattle.std.proofs.KnownBytes.{Appends-nil, Keeps-refl}
 use Rattle.std.proofs.lemmas.List.{length-map, map-append}
 use Rattle.std.proofs.lemmas.List.Elements.{All-cons, All-head, All-nil, All-tail}
@@ -19,12 +18,12 @@ use Rattle.fl_history.specs.declared.history.Line.{Line}
 use Rattle.fl_intake.specs.Often.{Weight}
 use Rattle.fl_log.specs.Appended.{Appended, HasAll as HasAllEntries, IsAppended}
 use Rattle.fl_log.specs.Growing.{Grows}
-use Rattle.fl_serve.specs.Inside.Working.{HaveDone, Work}
+use Rattle.fl_serve.specs.Inside.Working.{HaveDone}
 use Rattle.fl_serve.proofs.GrowingLemmas.{appended_more, by_begins, just_these, then_more}
 use Rattle.fl_serve.proofs.PartLemmas.{answered_each, as_many_handed, author_of, gave_each, kept_each, parts_of, same_orders}
 use Rattle.fl_serve.proofs.PartLemmas.{same_refused, same_workers}
 use Rattle.fl_serve.specs.Inside.Closing.{HasAll, HasGrown, HasSaidGoodbye, last_words}
-use Rattle.fl_serve.specs.Serve.{AreAllGiven, AreDone, HasNoHistory, IsRecordedBy, IsServedBy, Part}
+use Rattle.fl_serve.specs.Serve.{AreAllGiven, AreDone, IsRecordedBy, IsServedBy}
 use Rattle.fl_session.specs.Recorded.{done_of, journal_lines}
 use Rattle.fl_session.specs.declared.done.Done.{Done}
 use Rattle.fl_session.specs.declared.recorded.Recorded.{Recorded}
@@ -58,14 +57,6 @@ workers_of seat_of posts seats is = go posts ∙ ap (map (λ (p : Place). p.work
     go : (xs : List _) → map (λ x. (seat_of x).worker) xs ≡ map (λ (p : Place). p.worker) (map seat_of xs)
     go [] = refl
     go (x ∷ xs) = ap (λ l. (seat_of x).worker ∷ l) (go xs)
-
--- the same, and how many they are
-pub same_seats : {X : Type 0} (seat_of : X → Place) (posts : List X) (workers : ℕ)
-    → map (λ (x : X). (seat_of x).worker) posts ≡ range_with_len 0 workers
-    → (map (λ (p : Place). p.worker) (map seat_of posts) ≡ range_with_len 0 workers) × (length (map seat_of posts) ≡ workers)
-same_seats seat_of posts workers is =
-    let same = sym (workers_of seat_of posts (map seat_of posts) refl) ∙ is in
-    (same, as_many (map seat_of posts) workers same)
 
 -- no session ends without a reader, as long as its board is told
 pub never_no_reader : (told : Option Fault) (broken : Bool) (messages : List (List ℕ)) (rest : List ℕ)
@@ -252,7 +243,7 @@ pub served_by : (rules : Rules) (workers : ℕ) (it : Reception) (start held : O
     → HasReceived it → it.sent ≡ record { author = workers; count = 0; upto = [] }
     → HaveDone rules orders places sents any lost
     → HasSaidGoodbye start (record { held = held; waiting = []; broken = broken }) sents it.sent_now it.goodbye whole
-    → ((weight : Weight) → sum_by weight it.put ≡ orders weight)
+    → ((weight : Weight) → sum_by weight it.orders ≡ orders weight)
     → map (λ (p : Place). p.worker) places ≡ range_with_len 0 workers
     → ((messages : List (List ℕ)) (rest : List ℕ) (left : Option (List ℕ))
     → IsEnding it.fault (handshake_of messages).over rest left → EndsBy told broken messages rest left)
@@ -278,7 +269,7 @@ served_by rules workers it start held broken sents places orders any lost whole 
           (λ all. inl (rw all.0.told (ends received.messages received.rest it.left_now received.ending)))
           (λ none. inr none.0) closed;
       orders = ⊎_elim
-          (λ all. inl (all_done rules workers received.messages it.put sents places orders any lost told stored done received.said
+          (λ all. inl (all_done rules workers received.messages it.orders sents places orders any lost told stored done received.said
           is whose did all.0))
           (λ none. inr (record { fault = inl none.0; history = none.1; refused = none.2 })) closed;
       unrefused = ⊎_elim
@@ -382,46 +373,3 @@ recorded_from lines stored workers takers rules by left left_now start held held
     subst (λ n. IsRecordedBy lines stored n rules (record { left = left; left_now = left_now; held = held; held_now = held_now }) it) many
     (subst (λ r. IsRecordedBy lines stored takers r (record { left = left; left_now = left_now; held = held; held_now = held_now }) it) (sym same)
     (subst (λ h. IsRecordedBy lines stored takers by (record { left = left; left_now = left_now; held = h; held_now = held_now }) it) (sym begun) recorded))
-
--- all workers came back, of whom there was one for each number
-pub workers_back : (places back : List Place) (workers takers : ℕ)
-    → map (λ (p : Place). p.worker) back ≡ map (λ (p : Place). p.worker) places
-    → map (λ (p : Place). p.worker) places ≡ range_with_len 0 workers → takers ≡ workers
-    → (map (λ (p : Place). p.worker) back ≡ range_with_len 0 takers) × (length back ≡ workers)
-workers_back places back workers takers whose all same =
-    (whose ∙ all ∙ sym (ap (range_with_len 0) same), as_many back workers (whose ∙ all))
-
--- what was received, with the receiver's appender by its own name
-pub received_by : (left left_now : Option (List ℕ)) (fault : Option Fault) (put : Orders) (goodbye : Response)
-    (sent sent_now : Appended ReplyEntry) (lost : Bool) (workers takers : ℕ)
-    → sent ≡ record { author = workers; count = 0; upto = [] } → takers ≡ workers
-    → HasReceived (record {
-      left = left;
-      left_now = left_now;
-      fault = fault;
-      put = put;
-      goodbye = goodbye;
-      sent = sent;
-      sent_now = sent_now;
-      lost = lost;
-    }) → HasReceived (record {
-      left = left;
-      left_now = left_now;
-      fault = fault;
-      put = put;
-      goodbye = goodbye;
-      sent = record { author = takers; count = 0; upto = [] };
-      sent_now = sent_now;
-      lost = lost;
-    })
-received_by left left_now fault put goodbye sent sent_now lost workers takers is same received =
-    subst (λ (a : Appended ReplyEntry). HasReceived (record {
-      left = left;
-      left_now = left_now;
-      fault = fault;
-      put = put;
-      goodbye = goodbye;
-      sent = a;
-      sent_now = sent_now;
-      lost = lost;
-    })) (is ∙ ap (λ (n : ℕ). record { author = n; count = 0; upto = [] }) (sym same)) received

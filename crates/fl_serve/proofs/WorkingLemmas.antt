@@ -1,9 +1,9 @@
 -- What the workers of a session have done together.
-use Rattle.std.proofs.Common.{◌≡◌, ℕ, ◌+◌, Bool, true, false, List, [], ◌∷◌, ◌++◌, All, Option}
+use Rattle.std.proofs.Common.{◌≡◌, ℕ, ◌+◌, Bool, true, false, List, [], ◌∷◌, ◌++◌, All}
 use Rattle.std.proofs.Common.{length, map, sum_by, refl, sym, ap, ◌∙◌, subst, arith, append_assoc}
-use Rattle.std.proofs.Common.{◌<◌, ◌≤◌, append-nil, length-append}
+use Rattle.std.proofs.Common.{append-nil, length-append}
 use Rattle.std.specs.Prelude.{◌||◌}
-use Rattle.std.proofs.lemmas.List.{length-map, map-append, nil_from_length}
+use Rattle.std.proofs.lemmas.List.{map-append, nil_from_length}
 use Rattle.std.proofs.lemmas.List.Elements.{All-cons, All-head, All-nil, All-push, All-tail}
 use Rattle.std.proofs.lemmas.List.Sums.{sum_by-append, sum_by_push}
 use mathlib.Core.List.{nil≢cons, head-eq_of_cons-eq, tail-eq_of_cons-eq}
@@ -13,12 +13,9 @@ use Rattle.fl_desk.specs.Asked.{Orders}
 use Rattle.fl_intake.specs.Ends.{TakeSide, weight_taken}
 use Rattle.fl_intake.specs.Often.{Weight}
 use Rattle.fl_log.specs.Appended.{Appended}
-use Rattle.fl_serve.specs.Inside.Working.{HasComeBack, HaveDone, HaveWorked, IsDone, Returns, Work, idle, standing_at}
+use Rattle.fl_serve.specs.Inside.Working.{HasComeBack, HaveDone, IsDone, Work, idle, standing_at}
 use Rattle.fl_serve.specs.Serve.{some_is}
-use Rattle.fl_transport.specs.declared.fault.Fault.{Fault}
-use Rattle.fl_transport.specs.declared.response.Response.{Response}
 use Rattle.fl_waiting.specs.declared.rules.Rules.{Rules}
-use Rattle.fl_workers.specs.Received.{HasReceived}
 use Rattle.fl_workers.specs.Worked.{HasWorked, Standing}
 use Rattle.fl_workers.specs.declared.entry.ReplyEntry.{ReplyEntry}
 
@@ -31,7 +28,7 @@ or_assoc : (a b c : Bool) → (a || (b || c)) ≡ ((a || b) || c)
 or_assoc true b c = refl
 or_assoc false b c = refl
 
-or_false : (b : Bool) → (b || false) ≡ b
+pub or_false : (b : Bool) → (b || false) ≡ b
 or_false true = refl
 or_false false = refl
 
@@ -49,13 +46,13 @@ some_more f works work = ap some_is (map-append f works (work ∷ [])) ∙ some_
 -- no worker has come back yet
 pub none_back : (rules : Rules) (ends : List TakeSide) (places : List Place) (sent : List Sent) (any lost : Bool)
     → ends ≡ [] → places ≡ [] → sent ≡ [] → any ≡ false → lost ≡ false
-    → HaveDone rules (λ weight. weight_taken weight ends) places sent any lost
+    → HaveDone rules (λ weight. sum_by weight [] + weight_taken weight ends) places sent any lost
 none_back rules ends places sent any lost no_end no_place no_sent none whole = record {
   works = [];
   at = sym no_place;
   gave = sym no_sent;
   each = All-nil (IsDone rules);
-  weighs = λ weight. ap (weight_taken weight) no_end;
+  weighs = λ weight. ap (λ l. sum_by weight [] + weight_taken weight l) no_end;
   refused = none;
   missing = whole;
 }
@@ -79,15 +76,15 @@ work_of rules worker end end_now place gave any lost back fresh =
     )
 
 -- one worker more came back
-pub one_back : (rules : Rules) (ends ends_now : List TakeSide) (places places_now : List Place)
+pub one_back : (rules : Rules) (others : Weight → ℕ) (ends ends_now : List TakeSide) (places places_now : List Place)
     (sent sent_now : List Sent)
     (any any_now lost lost_now more gone : Bool) (worker : ℕ) (end end_now : TakeSide) (place : Place) (gave : Sent)
-    → HaveDone rules (λ weight. weight_taken weight ends) places sent any lost → end.taken ≡ []
+    → HaveDone rules (λ weight. others weight + weight_taken weight ends) places sent any lost → end.taken ≡ []
     → HasComeBack rules worker end place gave end_now more gone → ends_now ≡ ends ++ end_now ∷ []
     → places_now ≡ places ++ place ∷ [] → sent_now ≡ sent ++ gave ∷ [] → any_now ≡ (any || more)
     → lost_now ≡ (lost || gone)
-    → HaveDone rules (λ weight. weight_taken weight ends_now) places_now sent_now any_now lost_now
-one_back rules ends ends_now places places_now sent sent_now any any_now lost lost_now more gone worker end end_now
+    → HaveDone rules (λ weight. others weight + weight_taken weight ends_now) places_now sent_now any_now lost_now
+one_back rules others ends ends_now places places_now sent sent_now any any_now lost lost_now more gone worker end end_now
     place gave so_far fresh back is_end is_place is_sent is_any is_lost =
     let it = work_of rules worker end end_now place gave more gone back fresh in
     let works = so_far.works in
@@ -107,25 +104,6 @@ one_back rules ends ends_now places places_now sent sent_now any any_now lost lo
       refused = is_any ∙ (λ i. so_far.refused i || sym it.4 i) ∙ sym (some_more (λ (w : Work). w.any) works work);
       missing = is_lost ∙ (λ i. so_far.missing i || sym it.5 i) ∙ sym (some_more (λ (w : Work). w.lost) works work);
     }
-
--- whose the places of these are
-names_at : {Y : Type 0} (g : Y → Place) (posts : List Y)
-    → map (λ (p : Place). p.worker) (map g posts) ≡ map (λ y. (g y).worker) posts
-names_at g [] = refl
-names_at g (y ∷ posts) = ap (λ l. (g y).worker ∷ l) (names_at g posts)
-
--- all workers came back, who were started by these threads at these posts
-pub all_back : {X Y : Type 0} (f : X → ℕ) (g : Y → Place) (rules : Rules) (threads : List X) (posts : List Y)
-    (back : Returns) → map (λ (p : Place). p.worker) back.places ≡ map f threads
-    → map f threads ≡ map (λ y. (g y).worker) posts → length back.ends ≡ length threads
-    → HaveDone rules (λ weight. weight_taken weight back.ends) back.places back.sent back.any back.lost
-    → HaveWorked rules (map g posts) back
-all_back f g rules threads posts back joined started all did = record {
-  whose = joined ∙ started ∙ sym (names_at g posts);
-  all = all ∙ sym (length-map threads f) ∙ ap length started ∙ length-map posts (λ y. (g y).worker)
-      ∙ sym (length-map posts g);
-  did = did;
-}
 
 -- ---- orders that no worker took
 
@@ -251,42 +229,6 @@ pub ended : {X Y : Type 0} (f : X → ℕ) (g : Y → ℕ) (done : List X) (rest
 ended f g done rest names all none =
     sym (ap (λ l. map f done ++ map g l) (nil_from_length rest none) ∙ append-nil (map f done)) ∙ all
 
--- what was received, by other names
-pub received_as : (left before now : Option (List ℕ)) (fault told : Option Fault) (put all : Orders)
-    (goodbye other : Response) (sent own own_now : Sent) (gone lost : Bool) → now ≡ before → told ≡ fault → all ≡ put
-    → other ≡ goodbye → own_now ≡ own → lost ≡ gone
-    → HasReceived (record {
-      left = left;
-      left_now = before;
-      fault = fault;
-      put = put;
-      goodbye = goodbye;
-      sent = sent;
-      sent_now = own;
-      lost = gone;
-    })
-    → HasReceived (record {
-      left = left;
-      left_now = now;
-      fault = told;
-      put = all;
-      goodbye = other;
-      sent = sent;
-      sent_now = own_now;
-      lost = lost;
-    })
-received_as left before now fault told put all goodbye other sent own own_now gone lost same_left same_fault same_put
-    same_answer same_own same_lost received = subst HasReceived (λ i. record {
-      left = left;
-      left_now = sym same_left i;
-      fault = sym same_fault i;
-      put = sym same_put i;
-      goodbye = sym same_answer i;
-      sent = sent;
-      sent_now = sym same_own i;
-      lost = sym same_lost i;
-    }) received
-
 -- one more behind a list of which all are so
 pub all_pushed : {X : Type 0} (P : X → Type 0) (xs ys : List X) (x : X) → ys ≡ xs ++ x ∷ [] → All P xs → P x → All P ys
 all_pushed P xs ys x is all this = subst (All P) (sym is) (All-push P xs x all this)
@@ -297,23 +239,6 @@ pub one_so_far : {X Y : Type 0} (done done_now : List X) (x : X) (rest rest_now 
     → length done_now + length rest_now ≡ all
 one_so_far done done_now x rest rest_now y all so_far is_done is_rest =
     omega (arith, so_far, ap length is_done ∙ length-append done (x ∷ []), ap length is_rest)
-
--- if one more comes from a list, what came is shorter than all
-pub still_fewer : {X Y : Type 0} (done : List X) (rest rest_now : List Y) (y : Y) (all : ℕ)
-    → length done + length rest ≡ all → rest ≡ y ∷ rest_now → length done < all
-still_fewer done rest rest_now y all so_far is_rest = omega (arith, so_far, ap length is_rest)
-
--- room for all is room for one more of them
-pub room_for_one : (m n k all a b c : ℕ) → m < all → n < all → k < all → (all ≤ a) × (all < b) × (all ≤ c)
-    → (m < a) × (n < b) × (k < c)
-room_for_one m n k all a b c first second third room =
-    (omega (arith, first, room.0), omega (arith, second, room.1), omega (arith, third, room.2))
-
--- room for all stays where no capacity changes
-pub room_stays : (all a b c a_now b_now c_now : ℕ) → (all ≤ a) × (all < b) × (all ≤ c)
-    → (a_now ≡ a) × (b_now ≡ b) × (c_now ≡ c) → (all ≤ a_now) × (all < b_now) × (all ≤ c_now)
-room_stays all a b c a_now b_now c_now room same =
-    (omega (arith, room.0, same.0), omega (arith, room.1, same.1), omega (arith, room.2, same.2))
 
 -- the first and the others of a list of which all are so
 pub first_and_rest : {X : Type 0} (P : X → Type 0) (xs rest : List X) (x : X) → xs ≡ x ∷ rest → All P xs

@@ -5,21 +5,20 @@ ghost use Rattle.std.specs.Prelude.{false, length, map, IfSome, IsSome, None, ve
 ghost use Rattle.std.specs.List.{range_with_len};
 ghost use Rattle.std.specs.Io.KnownBytes.{Keeps};
 ghost use Rattle.fl_desk.specs.Legal.{IsLegal};
-ghost use Rattle.fl_intake.specs.Ends.{weight_taken};
+ghost use Rattle.fl_intake.specs.Ends.{PutSide};
 ghost use Rattle.fl_log.specs.Appended.{unused};
 ghost use Rattle.fl_transport.specs.Collecting.{IsGiven};
 ghost use Rattle.fl_transport.specs.Ending.{IsRead};
-ghost use Rattle.fl_workers.specs.Received.{HasReceived, answer_by};
+ghost use Rattle.fl_workers.specs.Received.{answer_by};
 ghost use Rattle.fl_workers.specs.Room.{HasRoomFor};
 ghost use Rattle.fl_workers.specs.Sent.{spelled};
-ghost use Rattle.fl_serve.specs.Inside.Running.{reception_of};
-ghost use Rattle.fl_serve.specs.Inside.Working.{HaveDone};
+ghost use Rattle.fl_serve.specs.Inside.Running.{HasRun};
 ghost use Rattle.fl_serve.specs.Inside.Closing.{HasAll, HasGrown, HasSaidGoodbye, last_words};
 ghost use Rattle.fl_session.specs.Recorded.{done_of, journal_lines};
 ghost use Rattle.fl_serve.specs.Serve.{IsServedBy};
 
-use crate::pool::{WorkerPool, handed_in};
-use crate::posts::Back;
+use crate::crew::Back;
+use crate::pool::{Ran, WorkerPool, handed_in};
 use fl_board::{Board, BoardName, Seat};
 use fl_history::Journal;
 use fl_log::Appender;
@@ -68,36 +67,32 @@ pub(crate) fn finish<
 >(
     alloc: Global,
     pool: WorkerPool<'_, 'w, L, N, R, W, G, J>,
-    back: Back<L, N>,
-    received: Received<N>,
+    ran: Ran<L, N>,
     replies: ReplyRoom,
 ) -> (Recorded<J>, &'w mut W)
-    requires parts { L.workers ≡ L.parts }
-    requires mine { (received.put.of ≡ pool.intake) × All (λ end. end.of ≡ pool.intake) back.ends.items }
-    requires all { received.put.takers ≤ length back.ends.items }
-    requires some { 0 < length back.seats.items }
-    requires pairs { length back.appenders.items ≡ length back.seats.items }
-    requires room { length back.appenders.items < vec_capacity back.appenders }
-    requires each { length back.appenders.items + 1 ≡ N.parts }
-    requires whose { map (λ seat. seat.worker) back.seats.items ≡ range_with_len 0 received.put.takers }
-    requires did { HaveDone L.rules (λ weight. weight_taken weight back.ends.items) back.seats.items
-        back.appenders.items back.failures.refused back.failures.lost }
+    requires parts { (L.workers ≡ L.parts) × (ran.received.put.takers + 1 ≡ N.parts) }
+    requires some { 0 < ran.received.put.takers }
+    requires mine { ran.received.put.of ≡ pool.intake }
+    requires whose { map (λ seat. seat.worker) ran.back.seats.items ≡ range_with_len 0 ran.received.put.takers }
+    requires pairs { (length ran.back.appenders.items ≡ ran.received.put.takers)
+        × (length ran.back.ends.items ≡ ran.received.put.takers) }
+    requires ends { All (λ end. end.of ≡ pool.intake) ran.back.ends.items }
+    requires room { length ran.back.appenders.items < vec_capacity ran.back.appenders }
     requires replies { HasRoomFor (L.rules.parked + 1) replies }
     ensures writer { result.1.ghost_name ≡ N.writer }
     ensures legal { IfSome result.0.journal (λ journal. IsLegal L.rules (J.lines journal)) }
-    ensures served { (left left_now : Option (List ℕ)) →
-        HasReceived (reception_of left left_now (unused received.put.takers) received)
-        → IsServedBy received.put.takers L.rules (record {
+    ensures served { (put : PutSide) (left left_now : Option (List ℕ))
+        → HasRun L.rules pool.entry.intake put (range_with_len 0 ran.received.put.takers) left left_now
+        (unused ran.received.put.takers) ran
+        → IsServedBy ran.received.put.takers L.rules (record {
           left = left;
           left_now = left_now;
           held = N.start;
           held_now = W.contents result.1.now;
-        }) (journal_lines J.stored result.0.journal) (done_of J.lines result.0) }
+        }) (journal_lines J.stored result.0.journal) (done_of J.lines result.0)
+        × (result.0.fault ≡ Some Fault.NoReader → result.0.journal ≡ None) }
     ensures back { IsSome result.0.journal ⊎ (result.0.fault ≡ Some Fault.NoReader) }
-    ensures untold { (left left_now : Option (List ℕ)) →
-        HasReceived (reception_of left left_now (unused received.put.takers) received)
-        → result.0.fault ≡ Some Fault.NoReader → result.0.journal ≡ None }
-    ensures memory { received.fault ≢ Some Fault.NoMemory → result.0.fault ≢ Some Fault.NoMemory }
+    ensures memory { ran.received.fault ≢ Some Fault.NoMemory → result.0.fault ≢ Some Fault.NoMemory }
 {
     let WorkerPool {
         rt,
@@ -107,6 +102,7 @@ pub(crate) fn finish<
         sender,
         ..
     } = pool;
+    let Ran { back, received } = ran;
     let Back {
         seats,
         appenders,

@@ -11,9 +11,9 @@
 //! `worker_loop`.
 #![tactic(auto)]
 
+mod crew;
 mod finishing;
 mod pool;
-mod posts;
 mod serving;
 mod stock;
 

@@ -1,29 +1,31 @@
 //! The workers of a session, from start to join.
 //!
 //! `WorkerPool::run` begins the session once all its workers are started, and before it reads: what is given to the
-//! sender earlier is lost. If a worker can't be started, nothing is read (`unread`) and nothing more is to be sent
-//! (`quiet`). Contracts let through a `run` that begins earlier, later or never, that says `NoMemory` at once, or that
-//! starts no worker and leaves all orders to `handed_in`. `fl_serve_tests` and `tests/serve/failing.py` refuse these.
+//! sender earlier is lost. If a worker can't be started, nothing is read. Contracts let through a `run` that begins
+//! earlier, later or never, that starts no worker and leaves all orders to `handed_in`, or that says at once that it
+//! can't start. `fl_serve_tests` and `tests/serve/failing.py` refuse these.
 
-ghost use Rattle.std.specs.Prelude.{◌≡◌, ◌≤◌, ◌<◌, ◌+◌, ◌||◌, ℕ, Bool, [], All, IfSome, true, false, length, map};
-ghost use Rattle.std.specs.Prelude.{sum_by, vec_capacity};
+ghost use Rattle.std.specs.Prelude.{◌≡◌, ◌≤◌, ◌<◌, ◌+◌, ◌++◌, ◌||◌, ℕ, Bool, [], All, IfSome, List, MatchOption, false, true};
+ghost use Rattle.std.specs.Prelude.{length, map, option_to_list, sum_by, vec_capacity};
+ghost use Rattle.std.specs.Io.KnownBytes.{Keeps};
 ghost use Rattle.fl_intake.specs.Often.{Weight};
 ghost use Rattle.fl_intake.specs.Ends.{weight_taken};
-ghost use Rattle.fl_serve.specs.Inside.Running.{CanRun, HasRunTo};
+ghost use Rattle.fl_serve.specs.Inside.Running.{CanRun, HasRun, HaveWorked, IsInline};
 ghost use Rattle.fl_serve.specs.Inside.Working.{HasComeBack, HaveDone, IsFresh, IsIdle};
-ghost use Rattle.fl_workers.specs.Room.{HasRoomFor, HasBatchFor};
+ghost use Rattle.fl_workers.specs.Room.{HasBatchFor, HasRoomFor};
+ghost use Rattle.fl_desk.specs.Asked.{Orders};
 
-use crate::posts::{Back, Posts};
+use crate::crew::{Back, Crew, Worker};
 use core::thread::Stack;
 use fl_board::{Board, BoardName, Seat};
 use fl_history::Journal;
 use fl_intake::{Intake, Job, PutEnd, TakeEnd};
 use fl_log::Appender;
-use fl_transport::{Fault, Inbox, Response};
+use fl_transport::Inbox;
 use fl_workers::laws::orders_are_worked_on_in_turn;
 use fl_workers::{
-    BatchRoom, Failures, Gate, Post, Received, ReplyEntry, ReplyRoom, SharedSender, WriterName,
-    handle_all, receive_all, worker_loop,
+    BatchRoom, Dispatcher, Failures, Gate, InlineWorker, Post, Received, ReplyEntry, ReplyRoom,
+    SharedSender, WriterName, handle_all, receive_all, worker_loop,
 };
 use std::io::{Read, Write};
 use std::snapshot::Snapshot;
@@ -49,6 +51,8 @@ pub(crate) struct WorkerPool<
     pub gate: &'a G,
     /// Bytes of a worker's stack.
     pub stack: usize,
+    /// The first worker works in the thread of the reader.
+    pub inline: bool,
     /// Where workers hand in.
     pub board: Board<L, &'a R, J>,
     /// Where orders come from.
@@ -78,6 +82,15 @@ pub(crate) type Worked<L, N> = (Post<Seat<L>, N>, TakeEnd, Failures);
 /// A worker that was started.
 pub(crate) type Thread<L, N> = PromisedHandle<Worked<L, N>, AtSeat>;
 
+/// A session that ran: what its workers gave back, and how its receiver ended.
+#[derive(Drop)]
+pub(crate) struct Ran<L: BoardName, N: WriterName> {
+    /// What its workers gave back.
+    pub back: Back<L, N>,
+    /// How its receiver ended.
+    pub received: Received<'static, N>,
+}
+
 impl<
     'a,
     'w,
@@ -88,139 +101,130 @@ impl<
     G: Gate + Sync,
     J: Journal + Send + Drop,
 > WorkerPool<'a, 'w, L, N, R, W, G, J> {
-    /// Runs a session: starts a worker at each post, begins, reads until the session ends, closes the intake, and joins
-    /// the workers. If a worker can't be started nothing is read, and the session doesn't begin. `own` is what the
-    /// session's own answers are given to be sent through.
+    /// Runs a session: starts the workers, begins, reads until the session ends, closes the intake, and joins the
+    /// workers. If one can't be started, nothing is read, and the session doesn't begin. `own` is what the session's own
+    /// answers are given to be sent through.
     pub(crate) fn run<I: Read>(
         &self,
         r: &mut I,
         inbox: Inbox,
         put: PutEnd,
-        posts: Posts<L, N>,
+        crew: Crew<L, N>,
         own: Appender<N, ReplyEntry>,
-    ) -> (Back<L, N>, Received<N>)
-        requires { CanRun L.rules self.now.intake inbox put posts.ends.items posts.rooms.items }
-        ensures { HasRunTo L.rules self.now.intake put (map (λ post. post.seat) posts.posts.items)
-            (I.remaining r.old) (I.remaining r.new) own result.0 result.1 }
+    ) -> Option<Ran<L, N>>
+        requires can { CanRun self.now.intake inbox put }
+        requires idle { All (λ worker. IsIdle worker.post.seat worker.post.own) crew.workers.items }
+        requires ends { All (λ worker. IsFresh self.now.intake worker.end) crew.workers.items }
+        requires rooms { All (λ worker. HasBatchFor (L.rules.parked + 1) worker.room) crew.workers.items }
+        requires some { 0 < length crew.workers.items }
+        ensures { MatchOption result (Keeps (I.remaining r.old) (I.remaining r.new))
+            (HasRun L.rules self.now.intake put (map (λ worker. worker.post.seat.worker) crew.workers.items)
+            (I.remaining r.old) (I.remaining r.new) own) }
     {
         let rt = self.rt;
-        let (back, received, r) = thread::scope(
+        let (ran, r) = thread::scope(
             thread::scope_env(),
             rt,
-            move |scope| -> (Back<L, N>, Received<N>, &mut I)
-                requires { CanRun L.rules self.now.intake inbox put posts.ends.items posts.rooms.items }
-                ensures same { result.2.ghost_name ≡ r.entry.ghost_name }
-                ensures ran { HasRunTo L.rules self.entry.now.intake put (map (λ post. post.seat) posts.posts.items)
-                    (I.remaining r.entry.now) (I.remaining result.2.now) own result.0 result.1 }
+            move |scope| -> (Option<Ran<L, N>>, &mut I)
+                requires can { CanRun self.now.intake inbox put }
+                requires idle { All (λ worker. IsIdle worker.post.seat worker.post.own) crew.workers.items }
+                requires ends { All (λ worker. IsFresh self.now.intake worker.end) crew.workers.items }
+                requires rooms { All (λ worker. HasBatchFor (L.rules.parked + 1) worker.room) crew.workers.items }
+                requires some { 0 < length crew.workers.items }
+                ensures same { result.1.ghost_name ≡ r.entry.ghost_name }
+                ensures ran { MatchOption result.0 (Keeps (I.remaining r.entry.now) (I.remaining result.1.now))
+                    (HasRun L.rules self.entry.now.intake put
+                    (map (λ worker. worker.post.seat.worker) crew.workers.items)
+                    (I.remaining r.entry.now) (I.remaining result.1.now) own) }
             {
-                // Taken whole, so that what its type keeps is known here.
-                let posts = posts;
-                let Posts {
-                    posts,
-                    mut ends,
-                    mut rooms,
-                    mut threads,
-                    back,
-                } = posts;
-                let mut inbox = inbox;
-                let received = if self.start_all(
-                    scope,
-                    posts,
-                    &mut ends,
-                    &mut rooms,
-                    &mut threads,
-                ) {
-                    self.begin();
-                    receive_all(rt, &self.intake, &self.sender, own, put, r, &mut inbox)
-                } else {
-                    unread(put, own)
-                };
-                let mut received = received;
-                self.intake.close(&mut received.put);
-                (joined(rt, &self.intake, threads, back), received, r)
+                let ran = self.run_in(scope, r, inbox, put, crew, own);
+                (ran, r)
             },
         );
         // No effect at run time: the proof reads here what the reader has left.
         let _ = &*r;
-        (back, received)
+        ran
     }
 
-    // Replies may go out from here on.
-    fn begin(&self) {
-        let mut sender = self.sender.lock(self.rt);
-        sender.begin();
+    // The same, with threads of this scope.
+    fn run_in<'s, E, I: Read>(
+        &'s self,
+        scope: &Scope<'s, E>,
+        r: &mut I,
+        inbox: Inbox,
+        put: PutEnd,
+        crew: Crew<L, N>,
+        own: Appender<N, ReplyEntry>,
+    ) -> Option<Ran<L, N>>
+    where
+        'a: 's,
+        'w: 's,
+        requires can { CanRun self.now.intake inbox put }
+        requires idle { All (λ worker. IsIdle worker.post.seat worker.post.own) crew.workers.items }
+        requires ends { All (λ worker. IsFresh self.now.intake worker.end) crew.workers.items }
+        requires rooms { All (λ worker. HasBatchFor (L.rules.parked + 1) worker.room) crew.workers.items }
+        requires some { 0 < length crew.workers.items }
+        ensures { MatchOption result (Keeps (I.remaining r.old) (I.remaining r.new))
+            (HasRun L.rules self.now.intake put (map (λ worker. worker.post.seat.worker) crew.workers.items)
+            (I.remaining r.old) (I.remaining r.new) own) }
+    {
+        // Taken whole, so that what its type keeps is known here.
+        let crew = crew;
+        let Crew {
+            mut workers,
+            mut threads,
+            back,
+        } = crew;
+        let first = self.first_of(&mut workers);
+        if !self.start_all(scope, workers, &mut threads) {
+            let mut put = put;
+            self.intake.close(&mut put);
+            return None;
+        }
+        self.begin();
+        let ran = self.receive(first, r, inbox, put, own, back);
+        Some(joined(self.rt, &self.intake, threads, ran))
     }
 
-    // Starts a worker at each seat, and says whether all were started.
+    // The worker that works in the thread of the reader, if one does: the first of these.
+    fn first_of(&self, workers: &mut Vec<Worker<L, N>>) -> Option<Worker<L, N>>
+        requires { 0 < length workers.old.items }
+        ensures { workers.old.items ≡ option_to_list result ++ workers.new.items }
+    {
+        if self.inline {
+            Some(workers.remove(0))
+        } else {
+            None
+        }
+    }
+
+    // Starts these workers, and says whether all were started.
     fn start_all<'s, E>(
         &'s self,
         scope: &Scope<'s, E>,
-        posts: Vec<Post<Seat<L>, N>>,
-        ends: &mut Vec<TakeEnd>,
-        rooms: &mut Vec<BatchRoom>,
+        workers: Vec<Worker<L, N>>,
         threads: &mut Vec<Thread<L, N>>,
     ) -> bool
     where
         'a: 's,
         'w: 's,
-        requires idle { All (λ post. IsIdle post.seat post.own) posts.items }
-        requires ends { All (IsFresh self.now.intake) ends.old.items }
-        requires rooms { All (HasBatchFor (L.rules.parked + 1)) rooms.old.items }
+        requires idle { All (λ worker. IsIdle worker.post.seat worker.post.own) workers.items }
+        requires ends { All (λ worker. IsFresh self.now.intake worker.end) workers.items }
+        requires rooms { All (λ worker. HasBatchFor (L.rules.parked + 1) worker.room) workers.items }
         requires none { threads.old.items ≡ [] }
-        requires room { length posts.items ≤ vec_capacity threads.old }
-        ensures most { length threads.new.items ≤ length posts.items }
+        requires room { length workers.items ≤ vec_capacity threads.old }
         ensures whose { result ≡ true
-            → map (λ t. t.promise.worker) threads.new.items ≡ map (λ post. post.seat.worker) posts.items }
+            → map (λ t. t.promise.worker) threads.new.items ≡ map (λ worker. worker.post.seat.worker) workers.items }
         ensures ends { All (λ t. IsFresh self.now.intake t.promise.end.value) threads.new.items }
     {
-        for post in posts {
-            let Some(thread) = self.start_next(scope, post, ends, rooms) else {
+        for worker in workers {
+            let Worker { post, end, room } = worker;
+            let Some(thread) = self.start(scope, post, end, room) else {
                 return false;
             };
             threads.push_reserved(thread);
         }
         true
-    }
-
-    // Starts a worker with the last of these ends and rooms, if there is one and a thread can be made.
-    fn start_next<'s, E>(
-        &'s self,
-        scope: &Scope<'s, E>,
-        post: Post<Seat<L>, N>,
-        ends: &mut Vec<TakeEnd>,
-        rooms: &mut Vec<BatchRoom>,
-    ) -> Option<Thread<L, N>>
-    where
-        'a: 's,
-        'w: 's,
-        requires idle { IsIdle post.seat post.own }
-        requires ends { All (IsFresh self.now.intake) ends.old.items }
-        requires rooms { All (HasBatchFor (L.rules.parked + 1)) rooms.old.items }
-        ensures whose { IfSome result (λ t. t.promise.worker ≡ post.seat.worker) }
-        ensures end { IfSome result (λ t. IsFresh self.now.intake t.promise.end.value) }
-        ensures ends { All (IsFresh self.now.intake) ends.new.items }
-        ensures rooms { All (HasBatchFor (L.rules.parked + 1)) rooms.new.items }
-    {
-        let (end, room) = self.last_of(ends, rooms)?;
-        self.start(scope, post, end, room)
-    }
-
-    // The last of these ends and the last of these rooms, if there are both.
-    fn last_of(
-        &self,
-        ends: &mut Vec<TakeEnd>,
-        rooms: &mut Vec<BatchRoom>,
-    ) -> Option<(TakeEnd, BatchRoom)>
-        requires ends { All (IsFresh self.now.intake) ends.old.items }
-        requires rooms { All (HasBatchFor (L.rules.parked + 1)) rooms.old.items }
-        ensures end { IfSome result (λ last. IsFresh self.now.intake last.0) }
-        ensures room { IfSome result (λ last. HasBatchFor (L.rules.parked + 1) last.1) }
-        ensures ends { All (IsFresh self.now.intake) ends.new.items }
-        ensures rooms { All (HasBatchFor (L.rules.parked + 1)) rooms.new.items }
-    {
-        let end = ends.pop()?;
-        let room = rooms.pop()?;
-        Some((end, room))
     }
 
     // Starts a worker, if a thread can be made.
@@ -260,7 +264,7 @@ impl<
             .ok()
     }
 
-    // What a worker does.
+    // What a worker does in a thread of its own.
     fn work(&self, post: Post<Seat<L>, N>, end: TakeEnd, room: BatchRoom) -> Worked<L, N>
         requires idle { IsIdle post.seat post.own }
         requires end { end.of ≡ self.now.intake }
@@ -282,50 +286,87 @@ impl<
         );
         (post, end, failures)
     }
-}
 
-// The result of a receiver that read nothing, since a worker couldn't be started.
-fn unread<N: WriterName>(put: PutEnd, own: Appender<N, ReplyEntry>) -> Received<N>
-    ensures put { result.put ≡ put }
-    ensures own { (result.own ≡ own) × (result.lost ≡ false) }
-    ensures fault { result.fault ≡ Some Fault.NoMemory }
-    ensures unanswered { result.goodbye ≡ Response.Nothing }
-{
-    Received {
-        put,
-        fault: Some(Fault::NoMemory),
-        goodbye: Response::Nothing,
-        own,
-        lost: false,
+    // Replies may go out from here on.
+    fn begin(&self) {
+        let mut sender = self.sender.lock(self.rt);
+        sender.begin();
+    }
+
+    // Reads until the session ends, and closes the intake. The first worker comes back, if it works in this thread.
+    fn receive<I: Read>(
+        &self,
+        first: Option<Worker<L, N>>,
+        r: &mut I,
+        inbox: Inbox,
+        put: PutEnd,
+        own: Appender<N, ReplyEntry>,
+        back: Back<L, N>,
+    ) -> Ran<L, N>
+        requires can { CanRun self.now.intake inbox put }
+        requires idle { IfSome first (λ worker. IsIdle worker.post.seat worker.post.own) }
+        requires end { IfSome first (λ worker. IsFresh self.now.intake worker.end) }
+        requires batch { IfSome first (λ worker. HasBatchFor (L.rules.parked + 1) worker.room) }
+        requires none { (back.seats.items ≡ []) × (back.appenders.items ≡ []) × (back.ends.items ≡ [])
+            × (back.failures.refused ≡ false) × (back.failures.lost ≡ false) }
+        requires room { (0 < vec_capacity back.seats) × (1 < vec_capacity back.appenders)
+            × (0 < vec_capacity back.ends) }
+        ensures ran { HasRun L.rules self.now.intake put
+            (map (λ worker. worker.post.seat.worker) (option_to_list first)) (I.remaining r.old) (I.remaining r.new) own
+            result }
+        ensures room { (vec_capacity result.back.seats ≡ vec_capacity back.seats)
+            × (vec_capacity result.back.appenders ≡ vec_capacity back.appenders)
+            × (vec_capacity result.back.ends ≡ vec_capacity back.ends) }
+    {
+        let orders = Dispatcher {
+            rt: self.rt,
+            counter: &self.board,
+            gate: self.gate,
+            intake: &self.intake,
+            sender: &self.sender,
+            put,
+            inline: self.inline_of(first),
+        };
+        let mut inbox = inbox;
+        let (received, inline) = receive_all(orders, own, r, &mut inbox);
+        let mut received = received;
+        self.intake.close(&mut received.put);
+        let mut back = back;
+        back.add_inline(inline);
+        Ran { back, received }
+    }
+
+    // The same worker in the thread of the reader.
+    fn inline_of(&self, worker: Option<Worker<L, N>>) -> Option<InlineWorker<Board<L, &'a R, J>, N>>
+        requires { IfSome worker (λ worker. HasBatchFor (L.rules.parked + 1) worker.room) }
+        ensures { IsInline worker result }
+    {
+        let Worker { post, end, room } = worker?;
+        Some(InlineWorker::new(&self.intake, post, end, room))
     }
 }
 
-// Joins all workers.
+// Joins all workers that were started.
 fn joined<L: BoardName, N: WriterName, R: Threads>(
     rt: &R,
     intake: &Intake,
     threads: Vec<Thread<L, N>>,
-    back: Back<L, N>,
-) -> Back<L, N>
-    requires none { (back.seats.items ≡ []) × (back.appenders.items ≡ []) × (back.ends.items ≡ []) }
-    requires room { (length threads.items ≤ vec_capacity back.seats)
-        × (length threads.items < vec_capacity back.appenders) × (length threads.items ≤ vec_capacity back.ends) }
+    ran: Ran<L, N>,
+) -> Ran<L, N>
+    requires room { (length ran.back.seats.items + length threads.items ≤ vec_capacity ran.back.seats)
+        × (length ran.back.appenders.items + length threads.items < vec_capacity ran.back.appenders)
+        × (length ran.back.ends.items + length threads.items ≤ vec_capacity ran.back.ends) }
     requires fresh { All (λ t. IsFresh intake.now t.promise.end.value) threads.items }
-    ensures all { length result.ends.items ≡ length threads.items }
-    ensures whose { map (λ seat. seat.worker) result.seats.items ≡ map (λ t. t.promise.worker) threads.items }
-    ensures ends { All (λ end. end.of ≡ intake.now) result.ends.items }
-    ensures did { HaveDone L.rules (λ weight. weight_taken weight result.ends.items) result.seats.items
-        result.appenders.items result.failures.refused result.failures.lost }
-    ensures pairs { length result.appenders.items ≡ length result.seats.items }
-    ensures room { length result.appenders.items < vec_capacity result.appenders }
+    ensures same { result.received ≡ ran.received }
+    ensures worked { (workers : List ℕ) (inline : Orders) → HaveWorked L.rules intake.now workers inline ran.back
+        → HaveWorked L.rules intake.now (workers ++ map (λ t. t.promise.worker) threads.items) inline result.back }
 {
-    let mut back = back;
-    back.failures = Failures::none();
+    let mut ran = ran;
     for thread in threads {
         let worked = thread.join(rt);
-        back.add(worked);
+        ran.back.add(worked);
     }
-    back
+    ran
 }
 
 /// Orders that no worker took are handed in, or looked for, at the last seat, and answered in its worker's name. Tells

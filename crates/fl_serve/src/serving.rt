@@ -1,17 +1,18 @@
 //! A whole session of the FUSE protocol with workers, over any reader and any writer.
 
-ghost use Rattle.std.specs.Prelude.{◌≡◌, ◌≤◌, ◌<◌, ◌+◌, ◌⊎◌, [], Some, map};
+ghost use Rattle.std.specs.Prelude.{◌≡◌, ◌≤◌, ◌<◌, ◌+◌, ◌⊎◌, [], All, Some, false, map};
 ghost use Rattle.std.specs.Io.KnownBytes.{Keeps};
 ghost use Rattle.std.specs.List.{range_with_len};
 ghost use Rattle.fl_desk.specs.Legal.{IsLegal, LeavesLawful};
 ghost use Rattle.fl_log.specs.Appended.{unused};
 ghost use Rattle.fl_serve.specs.Inside.Running.{CanRun};
+ghost use Rattle.fl_serve.specs.Inside.Working.{IsFresh, IsIdle};
 ghost use Rattle.fl_serve.specs.Serve.{IsRecordedBy, IsServedBy};
-ghost use Rattle.fl_workers.specs.Room.{HasRoomFor};
+ghost use Rattle.fl_workers.specs.Room.{HasBatchFor, HasRoomFor};
 
+use crate::crew::Crew;
 use crate::finishing::{finish, unstarted};
 use crate::pool::WorkerPool;
-use crate::posts::{Back, Posts};
 use crate::stock::{Stock, opened};
 use fl_board::{BoardName, OpenFault};
 use fl_core::Rules;
@@ -21,7 +22,7 @@ use fl_intake::PutEnd;
 use fl_log::{Appender, Ask, FreshLog};
 use fl_session::{Done, Recorded};
 use fl_transport::{Fault, Inbox};
-use fl_workers::{Gate, Received, ReplyEntry, ReplyRoom, SharedSender, WriterName};
+use fl_workers::{Gate, ReplyEntry, ReplyRoom, SharedSender, WriterName};
 use std::alloc::Global;
 use std::io::{Read, Write};
 use std::marker::Brand;
@@ -67,12 +68,13 @@ pub fn serve<R: Threads + Wait + Sync, I: Read, W: Write + Send + Drop, G: Gate 
         workers,
         rules,
         stack: STACK_BYTES,
+        inline: false,
     };
     record_with_workers(rt, alloc, r, w, staff, gate, Lines::new(alloc)).into_done(alloc)
 }
 
-/// How a session with workers is served: by how many of them, under which rules, and with how many bytes for each
-/// worker's stack. If a thread can't be made with such a stack, the fault is `NoMemory`.
+/// How a session with workers is served: by how many of them, under which rules, with how many bytes for each worker's
+/// stack, and where the first works. If a thread can't be made with such a stack, the fault is `NoMemory`.
 #[derive(Clone, Copy, Debug)]
 pub struct Staff {
     /// How many workers, 1 to 16.
@@ -81,18 +83,31 @@ pub struct Staff {
     pub rules: Rules,
     /// Bytes of a worker's stack.
     pub stack: usize,
+    /// The first worker works in the thread that reads, and takes each order that comes while no other worker has one.
+    /// Nothing is read while it waits: so this is for a gate that never waits, and for a journal whose lines may leave
+    /// after replies.
+    pub inline: bool,
 }
 
 impl Staff {
-    /// So many workers, under these rules, with stacks of 2 MiB.
+    /// So many workers, under these rules, each in a thread of its own, with stacks of 2 MiB.
     pub fn new(workers: u32, rules: Rules) -> Staff
-        ensures { (result.workers ≡ workers) × (result.rules ≡ rules) × (result.stack ≡ 2097152) }
+        ensures { (result.workers ≡ workers) × (result.rules ≡ rules) × (result.stack ≡ 2097152)
+            × (result.inline ≡ false) }
     {
         Staff {
             workers,
             rules,
             stack: STACK_BYTES,
+            inline: false,
         }
+    }
+
+    /// The same staff. `inline` says whether the first worker works in the thread that reads.
+    pub fn with_inline(self, inline: bool) -> Staff
+        ensures { result ≡ record self { inline = inline } }
+    {
+        Staff { inline, ..self }
     }
 }
 
@@ -187,20 +202,23 @@ fn run_at<
         replies,
         intake,
         put,
-        posts,
+        ends,
+        rooms,
+        crew,
     } = stock;
     let (sender, mut rest) = SharedSender::<'w, W, N>::new(sending, given, replies, w);
-    let posts = posts.at(seats, &sender, &mut rest);
+    let crew = crew.at(&intake, seats, ends, rooms, &sender, &mut rest);
     let own = sender.appender(&mut rest, staff.workers);
     let pool = WorkerPool {
         rt,
         gate,
         stack: staff.stack,
+        inline: staff.inline,
         board,
         intake,
         sender: Mutex::new(sender),
     };
-    run_pool(alloc, pool, r, inbox, put, posts, own, left)
+    run_pool(alloc, pool, r, inbox, put, crew, own, left)
 }
 
 // Runs the workers of a session, and ends it once they came back.
@@ -219,13 +237,16 @@ fn run_pool<
     r: &mut I,
     inbox: Inbox,
     put: PutEnd,
-    posts: Posts<L, N>,
+    crew: Crew<L, N>,
     own: Appender<N, ReplyEntry>,
     left: ReplyRoom,
 ) -> (Recorded<J>, &'w mut W)
     requires parts { (L.workers ≡ L.parts) × (put.takers + 1 ≡ N.parts) × (0 < put.takers) }
-    requires seats { map (λ post. post.seat.worker) posts.posts.items ≡ range_with_len 0 put.takers }
-    requires can { CanRun L.rules pool.intake inbox put posts.ends.items posts.rooms.items }
+    requires workers { map (λ worker. worker.post.seat.worker) crew.workers.items ≡ range_with_len 0 put.takers }
+    requires can { CanRun pool.intake inbox put }
+    requires idle { All (λ worker. IsIdle worker.post.seat worker.post.own) crew.workers.items }
+    requires ends { All (λ worker. IsFresh pool.intake worker.end) crew.workers.items }
+    requires rooms { All (λ worker. HasBatchFor (L.rules.parked + 1) worker.room) crew.workers.items }
     requires left { HasRoomFor (L.rules.parked + 1) left }
     requires own { own ≡ unused put.takers }
     ensures writer { result.1.ghost_name ≡ N.writer }
@@ -236,19 +257,16 @@ fn run_pool<
       held_now = W.contents result.1.now;
     }) result.0 }
 {
-    let (back, received) = pool.run(r, inbox, put, posts, own);
-    if received.fault == Some(Fault::NoMemory) {
-        return unstarted(alloc, only_sender(pool, back, received, left));
+    match pool.run(r, inbox, put, crew, own) {
+        Some(ran) => finish(alloc, pool, ran, left),
+        None => unstarted(alloc, only_sender(pool, left)),
     }
-    finish(alloc, pool, back, received, left)
 }
 
 // The sender of a session of which a worker couldn't be started. All else is dropped: here, and not where the session
 // is run, so that few steps have many values.
 fn only_sender<'w, L: BoardName, N: WriterName, R: Wait, W: Write, G, J: Journal + Drop>(
     pool: WorkerPool<'_, 'w, L, N, R, W, G, J>,
-    _back: Back<L, N>,
-    _received: Received<N>,
     _left: ReplyRoom,
 ) -> SharedSender<'w, W, N> {
     let WorkerPool { sender, .. } = pool;

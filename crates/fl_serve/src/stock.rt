@@ -1,19 +1,20 @@
 //! What a session with workers has before its first read.
 
-ghost use Rattle.std.specs.Prelude.{◌≡◌, ◌≤◌, ◌<◌, [], All, map, IfOk};
+ghost use Rattle.std.specs.Prelude.{◌≡◌, ◌≤◌, ◌<◌, ◌+◌, [], All, length, map, IfOk};
 ghost use Rattle.std.specs.List.{range_with_len};
 ghost use Rattle.fl_serve.specs.Inside.Running.{IsStocked};
 ghost use Rattle.fl_serve.specs.Inside.Working.{IsUnused};
+ghost use Rattle.fl_workers.specs.Room.{HasBatchFor};
 
-use crate::posts::Posts;
+use crate::crew::Crew;
 use fl_board::{Board, BoardName, OpenFault, Seat};
 use fl_core::Rules;
 use fl_history::Journal;
-use fl_intake::{Intake, PutEnd};
+use fl_intake::{Intake, PutEnd, TakeEnd};
 use fl_log::{Ask, FreshLog};
 use fl_order::NoMemory;
 use fl_transport::{Inbox, ReplyBuffer};
-use fl_workers::{ReplyRoom, WriterName};
+use fl_workers::{BatchRoom, ReplyRoom, WriterName};
 use std::alloc::Global;
 use std::sync::Wait;
 use std::sync::ledger::Blank;
@@ -27,7 +28,11 @@ pub(crate) struct Stock<L: BoardName, N: WriterName> {
     pub replies: ReplyBuffer,
     pub intake: Intake,
     pub put: PutEnd,
-    pub posts: Posts<L, N>,
+    /// An end for each worker.
+    pub ends: Vec<TakeEnd>,
+    /// Room for the orders that each takes at once, and for the replies to them.
+    pub rooms: Vec<BatchRoom>,
+    pub crew: Crew<L, N>,
 }
 
 impl<L: BoardName, N: WriterName> Stock<L, N> {
@@ -39,16 +44,31 @@ impl<L: BoardName, N: WriterName> Stock<L, N> {
         let replies = ReplyBuffer::new(alloc)?;
         let left = ReplyRoom::new(alloc, rules)?;
         let (intake, put, ends) = Intake::new(alloc, workers)?;
-        let posts = Posts::with_room(alloc, workers, rules, ends)?;
+        let rooms = rooms_for_batches(alloc, workers, rules)?;
+        let crew = Crew::with_room(alloc, workers)?;
         Ok(Stock {
             left,
             inbox,
             replies,
             intake,
             put,
-            posts,
+            ends,
+            rooms,
+            crew,
         })
     }
+}
+
+// Room for a batch of orders and the replies to it under these rules, for each worker.
+fn rooms_for_batches(alloc: Global, workers: u32, rules: Rules) -> Result<Vec<BatchRoom>, NoMemory>
+    ensures batches { IfOk result (λ batches. All (HasBatchFor (rules.parked + 1)) batches.items) }
+    ensures enough { IfOk result (λ batches. length batches.items ≡ workers) }
+{
+    let mut batches = Vec::with_capacity(alloc, workers as usize)?;
+    for _ in 0..workers {
+        batches.push(BatchRoom::new(alloc, rules)?)?;
+    }
+    Ok(batches)
 }
 
 /// A board over this journal, with a seat for each of so many workers, and all else that a session under these rules

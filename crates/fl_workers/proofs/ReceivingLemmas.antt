@@ -1,7 +1,7 @@
 -- What the receiver of a session with workers received, and what it answered.
-use Rattle.std.proofs.Common.{◌≡◌, ℕ, ◌+◌, ◌≤◌, length, take, Bool, true, false, true≢false}
+use Rattle.std.proofs.Common.{◌≡◌, ℕ, ◌≤◌, length, Bool, true, false, true≢false}
 use Rattle.std.proofs.Common.{List, [], ◌∷◌, ◌++◌, Option, refl, sym, ap, subst, ◌∙◌, append_assoc, append-nil}
-use Rattle.std.specs.Prelude.{Some, fold, if◌then◌else◌, slice_get}
+use Rattle.std.specs.Prelude.{fold, if◌then◌else◌}
 use Rattle.std.proofs.lemmas.Grind.{fold-append}
 use Rattle.fl_log.specs.Appended.{Appended, IsAppended}
 use Rattle.fl_order.specs.declared.order.Order.{Order}
@@ -16,30 +16,12 @@ use Rattle.fl_transport.specs.declared.handshake.Incoming.{Incoming}
 use Rattle.fl_transport.specs.declared.handshake.Incoming.TheVariants as incoming
 use Rattle.fl_transport.specs.declared.response.Response.{Response}
 use Rattle.fl_transport.specs.declared.response.Response.TheVariants.{Nothing}
-use Rattle.fl_workers.proofs.BatchLemmas.{take_next}
 use Rattle.fl_workers.proofs.SentLemmas.{each_sent, none_sent, one_given, one_lost}
 use Rattle.fl_workers.specs.Inside.Receiving.{AreAnswered, HasGiven, IsReceiving, given_now, so_far}
 use Rattle.fl_workers.specs.Received.{HasReceived, Reception, answer_by, left_to_answer}
 use Rattle.fl_workers.specs.Received.{own_answer_in, own_answer_to, own_answers, own_answers_from}
 use Rattle.fl_workers.specs.Sent.{entry, replies_of}
 use Rattle.fl_workers.specs.declared.entry.ReplyEntry.{ReplyEntry}
-
--- the orders of what a message is, by another name of it, are put
-pub puts_as : (one it : Incoming) (put put_now : List Order) → one ≡ it → put_now ≡ put ++ orders_in one
-    → put_now ≡ put ++ orders_in it
-puts_as one it put put_now same is_put = is_put ∙ ap (λ i. put ++ orders_in i) same
-
--- an answer of the session itself puts none
-pub puts_none : (it : Incoming) (response : Response) (put : List Order) → it ≡ incoming.Response response
-    → put ≡ put ++ orders_in it
-puts_none it response put is = sym (ap (λ i. put ++ orders_in i) is ∙ append-nil put)
-
--- the order at this place of a batch is put behind those before it
-pub put_more : (put put_now put_next orders : List Order) (i : ℕ) (order : Order) → slice_get orders i ≡ Some order
-    → put_now ≡ put ++ take i orders → put_next ≡ put_now ++ order ∷ [] → put_next ≡ put ++ take (i + 1) orders
-put_more put put_now put_next orders i order at put_so_far one =
-    one ∙ ap (λ l. l ++ order ∷ []) put_so_far ∙ append_assoc put (take i orders) (order ∷ [])
-    ∙ ap (λ l. put ++ l) (sym (take_next orders i order at))
 
 said_more : (handshake : Handshake) (xs ys : List (List ℕ))
     → said_from handshake (xs ++ ys) ≡ said_from handshake xs ++ said_from (fold advanced handshake xs) ys
@@ -162,11 +144,11 @@ answered_more it now old_over over messages message answers live all left same g
 -- ---- what is received so far
 
 -- nothing is received yet
-pub receiving_first : (left : Option (List ℕ)) (handshake : Handshake) (put : List Order) (goodbye : Response)
-    (sent : Appended ReplyEntry) (lost : Bool) (inbox : Inflow) → handshake ≡ opening → put ≡ [] → goodbye ≡ Nothing
+pub receiving_first : (left : Option (List ℕ)) (handshake : Handshake) (orders : List Order) (goodbye : Response)
+    (sent : Appended ReplyEntry) (lost : Bool) (inbox : Inflow) → handshake ≡ opening → orders ≡ [] → goodbye ≡ Nothing
     → lost ≡ false → IsUnread inbox
-    → IsReceiving (so_far left left put goodbye sent sent lost) handshake inbox.rest
-receiving_first left handshake put goodbye sent lost inbox fresh none unanswered whole unread = record {
+    → IsReceiving (so_far left left orders goodbye sent sent lost) handshake inbox.rest
+receiving_first left handshake orders goodbye sent lost inbox fresh none unanswered whole unread = record {
   messages = [];
   is_read = unread.unread left;
   far = fresh;
@@ -184,19 +166,19 @@ receiving_first left handshake put goodbye sent lost inbox fresh none unanswered
 pub receiving_more : (it now : Reception) (old new : Handshake) (message rest rest_now : List ℕ)
     → IsReceiving it old rest → now.left ≡ it.left → now.left_now ≡ it.left_now → now.sent ≡ it.sent
     → old.over ≡ false → Takes message rest rest_now → new ≡ advanced old message
-    → now.put ≡ it.put ++ orders_in (incoming_of old message)
+    → now.orders ≡ it.orders ++ orders_in (incoming_of old message)
     → (new.over ≡ true → now.goodbye ≡ goodbye_to message) → (new.over ≡ false → now.goodbye ≡ it.goodbye)
     → (new.over ≡ true → own_answer_in (incoming_of old message) ≡ now.goodbye ∷ [])
     → HasGiven it.sent_now now.sent_now it.lost now.lost (given_now new.over (own_answer_in (incoming_of old message)))
     → IsReceiving now new rest_now
-receiving_more it now old new message rest rest_now before from to same live takes there puts ends stays left given =
+receiving_more it now old new message rest rest_now before from to same live takes there more ends stays left given =
     record {
       messages = before.messages ++ message ∷ [];
       is_read = rw (from, to) (takes.onward it.left it.left_now before.messages
           (sym (ap (λ h. h.over) before.far) ∙ live) before.is_read);
       far = there ∙ ap (λ h. advanced h message) before.far
           ∙ sym (fold-append advanced opening before.messages (message ∷ []));
-      said = puts ∙ ap (λ l. l ++ orders_in (incoming_of old message)) before.said
+      said = more ∙ ap (λ l. l ++ orders_in (incoming_of old message)) before.said
           ∙ sym (said_last before.messages message old before.far live);
       over = λ over. record { front = before.messages; last = message; parts = refl; answer = ends over };
       live = λ still. stays still ∙ before.live live;

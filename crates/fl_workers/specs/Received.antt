@@ -50,19 +50,20 @@ pub record IsLast (messages : List (List ℕ)) (goodbye : Response) : Type 0 whe
 abbrev pub left_to_answer : Bool → Response → List Response
 left_to_answer over goodbye = if over then goodbye ∷ [] else []
 
--- How a receiver went: what was left of its reader and is left now, its fault, the orders that it put, what it leaves
--- to answer a DESTROY, what it had given to be sent and has now, and whether some answer was lost on the way there.
+-- How a receiver went: what was left of its reader and is left now, its fault, the orders that it dispatched, what it
+-- leaves to answer a DESTROY, what it had given to be sent and has now, and whether some answer was lost on the way
+-- there.
 pub record Reception : Type 0 where
   pub left : Option (List ℕ)
   pub left_now : Option (List ℕ)
   pub fault : Option Fault
-  pub put : List Order
+  pub orders : List Order
   pub goodbye : Response
   pub sent : Appended ReplyEntry
   pub sent_now : Appended ReplyEntry
   pub lost : Bool
 
--- What was read is whole messages and a rest, and the orders of these messages were put. If a DESTROY ended the
+-- What was read is whole messages and a rest, and the orders of these messages were dispatched. If a DESTROY ended the
 -- session, this is left to answer it. Otherwise nothing is. Each other message that is no order was answered, in this
 -- order, and nothing else was given to be sent; some answers may lack if one was lost.
 pub record HasReceived (it : Reception) : Type 0 where
@@ -71,7 +72,7 @@ pub record HasReceived (it : Reception) : Type 0 where
   pub is_read : IsRead it.left it.left_now messages rest
   pub bounded : length rest ≤ 8192
   pub ending : IsEnding it.fault (handshake_of messages).over rest it.left_now
-  pub said : it.put ≡ said_in messages
+  pub said : it.orders ≡ said_in messages
   pub over : (handshake_of messages).over ≡ true → IsLast messages it.goodbye
   pub live : (handshake_of messages).over ≡ false → it.goodbye ≡ Nothing
   pub answered : List Response

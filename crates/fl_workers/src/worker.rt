@@ -385,7 +385,10 @@ impl<'s, 'w, W: Write, N: WriterName> Outgoing for Collected<'s, 'w, W, N> {
 }
 
 // Sends what is collected.
-fn flush<R: Wait, W: Write, N: WriterName>(rt: &R, sender: &Mutex<SharedSender<'_, W, N>>) {
+pub(crate) fn flush<R: Wait, W: Write, N: WriterName>(
+    rt: &R,
+    sender: &Mutex<SharedSender<'_, W, N>>,
+) {
     let mut sender = sender.lock(rt);
     sender.flush();
 }

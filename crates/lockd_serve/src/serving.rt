@@ -14,6 +14,7 @@ use crate::ahead::{AheadLines, streamed};
 use crate::ending::{end_printed, end_session, end_streamed};
 use crate::hang_up::{HangUp, hang_up_if};
 use crate::options::{ServeOptions, TraceTo};
+use fl_core::Rules;
 use fl_history::{Journal, Lines, NoJournal};
 use fl_serve::{OpenGate, Recorded, Staff, record_session, record_with_workers};
 use fl_stream::{Streamed, TraceRoom, WhenWriterFails};
@@ -99,7 +100,7 @@ pub fn serve_stream<
         trace,
         when_full,
     } = options;
-    let staff = Staff::new(workers, rules);
+    let staff = staff_of(workers, rules, when_full);
     match trace {
         TraceTo::Output => {
             let Ok(mut room) = TraceRoom::new(alloc) else {
@@ -132,6 +133,14 @@ pub fn serve_stream<
             end_streamed(faults, streamed(recorded))
         }
     }
+}
+
+// So many workers, under these rules. The first works in the thread that reads if orders go on without their lines.
+// Otherwise a worker may have to wait for its lines to be stored, and the others go on meanwhile.
+fn staff_of(workers: u32, rules: Rules, when_full: WhenWriterFails) -> Staff
+    ensures { (result.workers ≡ workers) × (result.rules ≡ rules) }
+{
+    Staff::new(workers, rules).with_inline(when_full == WhenWriterFails::GoOn)
 }
 
 // Serves a session by so many workers, whose lines go to this journal.

@@ -1,88 +1,118 @@
--- What a session with workers has before its first read, and how its workers and its receiver come back.
-use Rattle.std.specs.Prelude.{◌≡◌, ℕ, ◌+◌, ◌<◌, ◌≤◌, false, List, [], All, Option, length, vec_capacity}
+-- What a session with workers has before its first read, and how it ran.
+use Rattle.std.specs.Prelude.{◌≡◌, ◌≢◌, ℕ, ◌+◌, ◌<◌, ◌≤◌, Bool, false, List, [], ◌∷◌, ◌++◌, ◌||◌, All, Option}
+use Rattle.std.specs.Prelude.{None, Some, length, map, sum_by, vec_capacity}
 use Rattle.atomic_table.specs.Seated.{TableId}
 use Rattle.fl_board.specs.Seats.{Place}
-use Rattle.fl_intake.specs.Ends.{PutSide, TakeSide}
+use Rattle.fl_desk.specs.Asked.{Orders}
+use Rattle.fl_intake.specs.Ends.{PutSide, TakeSide, weight_taken}
+use Rattle.fl_intake.specs.Often.{Weight}
 use Rattle.fl_log.specs.Appended.{Appended}
-use Rattle.fl_serve.specs.Inside.Working.{HasRun, IsFresh, Returns, Run}
-use Rattle.fl_serve.specs.declared.posts.Back.{Back}
-use Rattle.fl_serve.specs.declared.posts.Posts.{Posts}
+use Rattle.fl_serve.specs.Inside.Working.{HaveDone, IsFresh, standing_at}
+use Rattle.fl_serve.specs.declared.crew.Back.{Back}
+use Rattle.fl_serve.specs.declared.crew.Crew.{Crew}
+use Rattle.fl_serve.specs.declared.crew.Worker.{Worker}
+use Rattle.fl_serve.specs.declared.pool.Ran.{Ran}
 use Rattle.fl_serve.specs.declared.stock.Stock.{Stock}
 use Rattle.fl_transport.specs.Inbox.{Inflow, IsUnread}
+use Rattle.fl_transport.specs.declared.fault.Fault.TheVariants.{NoMemory}
 use Rattle.fl_waiting.specs.declared.rules.Rules.{Rules}
-use Rattle.fl_workers.specs.Received.{Reception}
+use Rattle.fl_workers.specs.Dispatched.{Inline}
+use Rattle.fl_workers.specs.Received.{HasReceived, Reception}
 use Rattle.fl_workers.specs.Room.{HasBatchFor, HasRoomFor}
 use Rattle.fl_workers.specs.declared.entry.ReplyEntry.{ReplyEntry}
 use Rattle.fl_workers.specs.declared.receiver.Received.{Received}
-use Rattle.fl_workers.specs.declared.room.BatchRoom.{BatchRoom}
 
--- Workers can run with these: nothing was read, nothing was put into this intake, of which these are fresh ends, and
--- each room has a place for a batch under these rules.
-pub record CanRun (rules : Rules) (of : TableId) (inbox : Inflow) (put : PutSide) (ends : List TakeSide)
-    (rooms : List BatchRoom) : Type 0 where
+-- Workers can run with these: nothing was read, and nothing was put into this intake.
+pub record CanRun (of : TableId) (inbox : Inflow) (put : PutSide) : Type 0 where
   pub unread : IsUnread inbox
   pub unused : (put.of ≡ of) × (put.closed ≡ false) × (put.put ≡ [])
-  pub fresh : All (IsFresh of) ends
-  pub batches : All (HasBatchFor (rules.parked + 1)) rooms
 
--- there is room for the posts of so many workers, for their threads, and for what they give back and one appender more
-abbrev pub HaveRoom : {L N : Type 0} → ℕ → Posts L N → Type 0
-HaveRoom workers posts = (workers ≤ vec_capacity posts.posts) × (workers ≤ vec_capacity posts.threads)
-    × (workers ≤ vec_capacity posts.back.seats) × (workers < vec_capacity posts.back.appenders)
-    × (workers ≤ vec_capacity posts.back.ends)
+-- there is room for so many workers, for their threads, and for what they give back and one appender more
+abbrev pub HasRoomForAll : {L N : Type 0} → ℕ → Crew L N → Type 0
+HasRoomForAll workers crew = (workers ≤ vec_capacity crew.workers) × (workers ≤ vec_capacity crew.threads)
+    × (workers ≤ vec_capacity crew.back.seats) × (workers < vec_capacity crew.back.appenders)
+    × (workers ≤ vec_capacity crew.back.ends)
 
--- so many workers can run with this stock, no post was given to them, no reply is collected, and there is room for all
+-- So many workers can run with this stock, once they have seats: nothing was read or put, each has an end of the intake
+-- and a room for batches, no reply is collected, and there is room for all.
 pub record IsStocked {L N : Type 0} (rules : Rules) (workers : ℕ) (stock : Stock L N) : Type 0 where
-  pub can : CanRun rules stock.intake stock.inbox stock.put stock.posts.ends.items stock.posts.rooms.items
+  pub can : CanRun stock.intake stock.inbox stock.put
   pub takers : stock.put.takers ≡ workers
+  pub fresh : All (IsFresh stock.intake) stock.ends.items
+  pub batches : All (HasBatchFor (rules.parked + 1)) stock.rooms.items
+  pub enough : (length stock.ends.items ≡ workers) × (length stock.rooms.items ≡ workers)
   pub left : HasRoomFor (rules.parked + 1) stock.left
-  pub none : (stock.replies ≡ []) × (stock.posts.posts.items ≡ [])
-  pub room : HaveRoom workers stock.posts
+  pub none : (stock.replies ≡ []) × (stock.crew.workers.items ≡ [])
+  pub room : HasRoomForAll workers stock.crew
 
--- workers that came back, by what they gave back
-abbrev pub returns_of : {L N : Type 0} → Back L N → Returns
-returns_of back =
-    record {
-      places = back.seats.items;
-      sent = back.appenders.items;
-      ends = back.ends.items;
-      any = back.failures.refused;
-      lost = back.failures.lost;
-    }
-
--- how a receiver went, by what was left of its reader and is left now, what it had given to be sent, and how it ended
-abbrev pub reception_of : {N : Type 0} → Option (List ℕ) → Option (List ℕ) → Appended ReplyEntry → Received N
+-- how a receiver went, by what was left of its reader and is left now, what it had given to be sent, the orders that it
+-- dispatched, and how it ended
+abbrev pub reception_of : {N : Type 0} → Option (List ℕ) → Option (List ℕ) → Appended ReplyEntry → Orders → Received N
     → Reception
-reception_of left left_now sent received =
+reception_of left left_now sent orders received =
     record {
       left = left;
       left_now = left_now;
       fault = received.fault;
-      put = received.put.put;
+      orders = orders;
       goodbye = received.goodbye;
       sent = sent;
       sent_now = received.own;
       lost = received.lost;
     }
 
--- a session whose workers were given these places, and which put orders through this end
-abbrev pub run_of : {L N : Type 0} → Rules → TableId → PutSide → List Place → Back L N → PutSide → Reception → Run
-run_of rules of put places back put_now reception =
-    record {
-      rules = rules;
-      of = of;
-      takers = put.takers;
-      places = places;
-      back = returns_of back;
-      put_of = put_now.of;
-      put_takers = put_now.takers;
-      reception = reception;
-    }
+-- one worker more came back, with this place, this appender and this end, and this went wrong with its orders
+pub record HasAdded {L N : Type 0} (old new : Back L N) (place : Place) (sent : Appended ReplyEntry) (end : TakeSide)
+    (any gone : Bool) : Type 0 where
+  pub seats : new.seats.items ≡ old.seats.items ++ place ∷ []
+  pub appenders : new.appenders.items ≡ old.appenders.items ++ sent ∷ []
+  pub ends : new.ends.items ≡ old.ends.items ++ end ∷ []
+  pub refused : new.failures.refused ≡ (old.failures.refused || any)
+  pub lost : new.failures.lost ≡ (old.failures.lost || gone)
+  pub room : (vec_capacity new.seats ≡ vec_capacity old.seats) × (vec_capacity new.appenders ≡ vec_capacity old.appenders)
+      × (vec_capacity new.ends ≡ vec_capacity old.ends)
 
--- A session ran, by what came back of it: an appender for each seat, and room for one more.
-pub record HasRunTo {L N : Type 0} (rules : Rules) (of : TableId) (put : PutSide) (places : List Place)
-    (left left_now : Option (List ℕ)) (sent : Appended ReplyEntry) (back : Back L N) (received : Received N)
-    : Type 0 where
-  pub ran : HasRun (run_of rules of put places back received.put (reception_of left left_now sent received))
-  pub pairs : length back.appenders.items ≡ length back.seats.items
+-- the same of the worker in the reader's thread, if there is one
+abbrev pub HasAddedIf : {L N : Type 0} → Back L N → Option Inline → Back L N → Type 0
+HasAddedIf old None new = new ≡ old
+HasAddedIf old (Some worker) new = (place : Place) × (sent : Appended ReplyEntry)
+    × (standing_at place sent ≡ worker.standing) × HasAdded old new place sent worker.end worker.refused worker.lost
+
+-- this worker is the one in the reader's thread, and got no order yet
+abbrev pub IsInline : {L N : Type 0} → Option (Worker L N) → Option Inline → Type 0
+IsInline None None = Unit {0}
+IsInline None (Some inline) = ⊥
+IsInline (Some worker) None = ⊥
+IsInline (Some worker) (Some inline) = (inline.standing ≡ standing_at worker.post.seat worker.post.own)
+    × (inline.end ≡ worker.end) × (inline.waiting ≡ []) × (inline.refused ≡ false) × (inline.lost ≡ false)
+
+-- These workers came back, in this order, each with its seat, its appender and its end of this intake. There is room
+-- for one appender more.
+pub record HaveComeBack {L N : Type 0} (of : TableId) (workers : List ℕ) (back : Back L N) : Type 0 where
+  pub whose : map (λ seat. seat.worker) back.seats.items ≡ workers
+  pub pairs : (length back.appenders.items ≡ length workers) × (length back.ends.items ≡ length workers)
+  pub ends : All (λ end. end.of ≡ of) back.ends.items
   pub room : length back.appenders.items < vec_capacity back.appenders
+
+-- what workers worked on, weighed: these orders in the reader's thread, and those that their ends took
+abbrev pub weight_worked : {L N : Type 0} → Orders → Back L N → Weight → ℕ
+weight_worked inline back weight = sum_by weight inline + weight_taken weight back.ends.items
+
+-- these workers came back, and worked on these orders in the reader's thread, and on those that their ends took
+pub record HaveWorked {L N : Type 0} (rules : Rules) (of : TableId) (workers : List ℕ) (inline : Orders)
+    (back : Back L N) : Type 0 where
+  pub came : HaveComeBack of workers back
+  pub did : HaveDone rules (weight_worked inline back) back.seats.items back.appenders.items back.failures.refused
+      back.failures.lost
+
+-- A session ran with these workers: what it received, and what they worked on. Each order was put into the intake, or
+-- is one of the orders of the reader's thread.
+pub record HasRun {L N : Type 0} (rules : Rules) (of : TableId) (put : PutSide) (workers : List ℕ)
+    (left left_now : Option (List ℕ)) (sent : Appended ReplyEntry) (ran : Ran L N) : Type 0 where
+  pub same : (ran.received.put.of ≡ of) × (ran.received.put.takers ≡ put.takers)
+  pub orders : Orders
+  pub inline : Orders
+  pub shared : (weight : Weight) → sum_by weight orders ≡ sum_by weight ran.received.put.put + sum_by weight inline
+  pub worked : HaveWorked rules of workers inline ran.back
+  pub received : HasReceived (reception_of left left_now sent orders ran.received)
+  pub memory : ran.received.fault ≢ Some NoMemory

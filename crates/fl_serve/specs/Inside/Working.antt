@@ -1,18 +1,14 @@
 -- What the workers of a session did together.
-use Rattle.std.specs.Prelude.{◌≡◌, ◌≢◌, ℕ, Bool, false, List, [], All, Some, length, map}
-use Rattle.std.specs.Prelude.{sum_by}
-use Rattle.std.specs.Io.KnownBytes.{Keeps}
+use Rattle.std.specs.Prelude.{◌≡◌, ℕ, Bool, List, [], All, map, sum_by}
 use Rattle.atomic_table.specs.Seated.{TableId}
 use Rattle.fl_board.specs.Seats.{Place, front_of}
 use Rattle.fl_desk.specs.Answered.{IsAnsweredAfter, answered_by}
 use Rattle.fl_desk.specs.Asked.{Orders}
-use Rattle.fl_intake.specs.Ends.{TakeSide, weight_taken}
+use Rattle.fl_intake.specs.Ends.{TakeSide}
 use Rattle.fl_intake.specs.Often.{Weight}
 use Rattle.fl_log.specs.Appended.{Appended, unused}
 use Rattle.fl_serve.specs.Serve.{some_is}
-use Rattle.fl_transport.specs.declared.fault.Fault.TheVariants.{NoMemory}
 use Rattle.fl_waiting.specs.declared.rules.Rules.{Rules}
-use Rattle.fl_workers.specs.Received.{HasReceived, Reception}
 use Rattle.fl_workers.specs.Worked.{HasDone, HasWorked, Standing}
 use Rattle.fl_workers.specs.declared.entry.ReplyEntry.{ReplyEntry}
 
@@ -88,41 +84,3 @@ pub record HaveDone (rules : Rules) (orders : Weight → ℕ) (places : List Pla
   pub weighs : (weight : Weight) → orders weight ≡ sum_by (λ work. sum_by weight work.orders) works
   pub refused : any ≡ some_is (map (λ work. work.any) works)
   pub missing : lost ≡ some_is (map (λ work. work.lost) works)
-
--- Workers that came back: their places in the order of workers, what each gave to be sent, its end of the intake,
--- whether some order was refused, and whether what is owed for some was lost.
-pub record Returns : Type 0 where
-  pub places : List Place
-  pub sent : List (Appended ReplyEntry)
-  pub ends : List TakeSide
-  pub any : Bool
-  pub lost : Bool
-
--- all workers of these places came back, in their order, each with its end
-pub record HaveWorked (rules : Rules) (places : List Place) (back : Returns) : Type 0 where
-  pub whose : map (λ place. place.worker) back.places ≡ map (λ place. place.worker) places
-  pub all : length back.ends ≡ length places
-  pub did : HaveDone rules (λ weight. weight_taken weight back.ends) back.places back.sent back.any back.lost
-
--- A session whose workers are joined: its rules, its intake and how many take from that, the places that its workers
--- were given and what came back, how its receiver went, and which intake that one put into, and for how many.
-pub record Run : Type 0 where
-  pub rules : Rules
-  pub of : TableId
-  pub takers : ℕ
-  pub places : List Place
-  pub back : Returns
-  pub put_of : TableId
-  pub put_takers : ℕ
-  pub reception : Reception
-
--- The result of a session. At NoMemory a worker couldn't be started, nothing was read, and the session itself gave
--- nothing to be sent.
-pub record HasRun (run : Run) : Type 0 where
-  pub put : (run.put_of ≡ run.of) × (run.put_takers ≡ run.takers)
-  pub ends : All (λ end. end.of ≡ run.of) run.back.ends
-  pub worked : run.reception.fault ≢ Some NoMemory → HaveWorked run.rules run.places run.back
-  pub received : run.reception.fault ≢ Some NoMemory → HasReceived run.reception
-  pub unread : run.reception.fault ≡ Some NoMemory → Keeps run.reception.left run.reception.left_now
-  pub quiet : run.reception.fault ≡ Some NoMemory
-      → (run.reception.sent_now ≡ run.reception.sent) × (run.reception.lost ≡ false)

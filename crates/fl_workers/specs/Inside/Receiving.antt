@@ -30,28 +30,28 @@ pub record AreAnswered (it : Reception) (over : Bool) (messages : List (List ℕ
   pub sent : HasGiven it.sent it.sent_now false it.lost answered
 
 -- how a receiver went so far that hasn't ended, and so has no fault
-abbrev pub so_far : (left left_now : Option (List ℕ)) (put : List Order) (goodbye : Response)
+abbrev pub so_far : (left left_now : Option (List ℕ)) (orders : List Order) (goodbye : Response)
     (sent sent_now : Appended ReplyEntry) (lost : Bool) → Reception
-so_far left left_now put goodbye sent sent_now lost =
+so_far left left_now orders goodbye sent sent_now lost =
     record {
       left = left;
       left_now = left_now;
       fault = None;
-      put = put;
+      orders = orders;
       goodbye = goodbye;
       sent = sent;
       sent_now = sent_now;
       lost = lost;
     }
 
--- What was read is whole messages and a rest, these messages bring the session this far, and their orders were put.
--- If it is over, this is left to answer the last, and else nothing. The other messages that are no orders were
--- answered, if no answer was lost.
+-- What was read is whole messages and a rest, these messages bring the session this far, and their orders were
+-- dispatched. If it is over, this is left to answer the last, and else nothing. The other messages that are no orders
+-- were answered, if no answer was lost.
 pub record IsReceiving (it : Reception) (handshake : Handshake) (rest : List ℕ) : Type 0 where
   pub messages : List (List ℕ)
   pub is_read : IsRead it.left it.left_now messages rest
   pub far : handshake ≡ handshake_of messages
-  pub said : it.put ≡ said_in messages
+  pub said : it.orders ≡ said_in messages
   pub over : handshake.over ≡ true → IsLast messages it.goodbye
   pub live : handshake.over ≡ false → it.goodbye ≡ Nothing
   pub own : AreAnswered it handshake.over messages

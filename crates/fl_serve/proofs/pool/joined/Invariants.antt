@@ -1,20 +1,20 @@
-use Rattle.std.proofs.Common.{◌≡◌, ◌+◌, ◌<◌, ◌≤◌, ◌++◌, All, length, map, vec_capacity}
-use Rattle.fl_intake.specs.Ends.{weight_taken}
-use Rattle.fl_serve.specs.Inside.Working.{HaveDone, IsFresh}
+use Rattle.std.proofs.Common.{◌≡◌, ◌+◌, ◌<◌, ◌≤◌, ◌++◌, ℕ, List, All, length, map, vec_capacity}
+use Rattle.fl_desk.specs.Asked.{Orders}
+use Rattle.fl_serve.specs.Inside.Running.{HaveWorked}
+use Rattle.fl_serve.specs.Inside.Working.{IsFresh}
 use Rattle.fl_serve.proofs.pool.joined.Given as goal
 
--- place, appender and end of each thread so far came back, in their order, and there is room for the others
+-- each thread so far came back, and there is room for the others
 abbrev pub invariant-loop-thread : goal.invariant-loop-thread
-invariant-loop-thread g l =
-    (length l.back.seats.items + length l.thread-iterator.rest.items ≡ length l.fn.threads.items)
-    × (length l.back.appenders.items + length l.thread-iterator.rest.items ≡ length l.fn.threads.items)
-    × (length l.back.ends.items + length l.thread-iterator.rest.items ≡ length l.fn.threads.items)
-    × ((length l.fn.threads.items ≤ vec_capacity l.back.seats)
-    × (length l.fn.threads.items < vec_capacity l.back.appenders)
-    × (length l.fn.threads.items ≤ vec_capacity l.back.ends))
-    × (map (λ seat. seat.worker) l.back.seats.items ++ map (λ t. t.promise.worker) l.thread-iterator.rest.items
-    ≡ map (λ t. t.promise.worker) l.fn.threads.items)
-    × All (λ t. IsFresh l.intake t.promise.end.value) l.thread-iterator.rest.items
-    × All (λ end. end.of ≡ l.intake) l.back.ends.items
-    × HaveDone g.L.BoardName.rules (λ weight. weight_taken weight l.back.ends.items) l.back.seats.items
-    l.back.appenders.items l.back.failures.refused l.back.failures.lost
+invariant-loop-thread g l = record {
+  room : (length l.ran.back.seats.items + length l.thread-iterator.rest.items ≤ vec_capacity l.ran.back.seats)
+      × (length l.ran.back.appenders.items + length l.thread-iterator.rest.items < vec_capacity l.ran.back.appenders)
+      × (length l.ran.back.ends.items + length l.thread-iterator.rest.items ≤ vec_capacity l.ran.back.ends);
+  fresh : All (λ t. IsFresh l.intake t.promise.end.value) l.thread-iterator.rest.items;
+  same : l.ran.received ≡ l.fn.ran.received;
+  worked : (workers : List ℕ) (inline : Orders)
+      → HaveWorked g.L.BoardName.rules l.intake workers inline l.fn.ran.back
+      → (names : List ℕ) × (names ++ map (λ t. t.promise.worker) l.thread-iterator.rest.items
+      ≡ workers ++ map (λ t. t.promise.worker) l.fn.threads.items)
+      × HaveWorked g.L.BoardName.rules l.intake names inline l.ran.back;
+}

@@ -1,10 +1,8 @@
-use Rattle.std.proofs.Common.{◌≡◌, ℕ, ◌+◌, [], All, Some, arith, false, inl, inr, ⊎_elim, refl, ap, subst, sym, ◌∙◌}
+use Rattle.std.proofs.Common.{ℕ, [], Some, arith, false, inl, inr, ⊎_elim, refl, ap, sym, ◌∙◌}
 use Rattle.std.proofs.KnownBytes.{Keeps-refl}
 use Rattle.std.specs.List.{range_with_len}
-use Rattle.fl_serve.specs.Inside.Working.{IsFresh}
 use Rattle.fl_serve.proofs.ServingLemmas.{as_many, none_recorded, nothing_given, recorded_from, workers_of}
 use Rattle.fl_log.specs.Appended.{Appended}
-use Rattle.fl_workers.specs.Room.{HasBatchFor}
 use Rattle.fl_workers.specs.declared.entry.ReplyEntry.{ReplyEntry}
 use Rattle.fl_serve.proofs.serving.run_at.Goals as goal
 
@@ -13,14 +11,14 @@ returns-in-Err-clause-recorded g c = none_recorded _ _ _ _ _ [] false _ (c.nothi
     (⊎_elim (λ m. inl (c.nothing.ensures.fault ∙ ap Some m.1, refl)) (λ r. inr (c.nothing.ensures.fault ∙ ap Some r.1)) c.unopened.ensures)
     (c.nothing.ensures.read _ _ (Keeps-refl _)) (nothing_given _) (Keeps-refl _) (λ _. Keeps-refl _)
 
-pub at-posts-requires-clause-rest : goal.at-posts-requires-clause-rest
-at-posts-requires-clause-rest g c =
+pub at-crew-requires-clause-rest : goal.at-crew-requires-clause-rest
+at-crew-requires-clause-rest g c =
     let many = as_many _ _ c.in-Ok.ensures.seats in
     let whole = c.new-sender.ensures.whole in
     (omega (arith, many, whole.0, c.requires.sending.2), whole.1)
 
-pub at-posts-requires-clause-room : goal.at-posts-requires-clause-room
-at-posts-requires-clause-room g c =
+pub at-crew-requires-clause-room : goal.at-crew-requires-clause-room
+at-crew-requires-clause-room g c =
     let many = as_many _ _ c.in-Ok.ensures.seats in
     let room = c.in-Ok.ensures.stock.room in (
       omega (arith, many, room.0),
@@ -34,7 +32,7 @@ pub appender-own-requires-clause-rest : goal.appender-own-requires-clause-rest
 appender-own-requires-clause-rest g c =
     let many = as_many _ _ c.in-Ok.ensures.seats in
     let whole = c.new-sender.ensures.whole in
-    let rest = c.at-posts.ensures.rest in
+    let rest = c.at-crew.ensures.rest in
     (omega (arith, many, whole.0, c.requires.sending.2, rest.0), rest.1)
 
 pub run_pool-requires-clause-parts : goal.run_pool-requires-clause-parts
@@ -45,19 +43,28 @@ run_pool-requires-clause-parts g c _ _ =
       omega (arith, takers, c.requires.workers.0),
     )
 
-pub run_pool-requires-clause-seats : goal.run_pool-requires-clause-seats
-run_pool-requires-clause-seats g c _ _ =
-    workers_of (λ post. post.seat) _ _ c.at-posts.ensures.seats ∙ c.in-Ok.ensures.seats
+pub at-crew-requires-clause-enough : goal.at-crew-requires-clause-enough
+at-crew-requires-clause-enough g c =
+    let many = sym (as_many _ _ c.in-Ok.ensures.seats) in
+    let enough = c.in-Ok.ensures.stock.enough in
+    (enough.0 ∙ many, enough.1 ∙ many)
+
+pub run_pool-requires-clause-workers : goal.run_pool-requires-clause-workers
+run_pool-requires-clause-workers g c _ _ =
+    workers_of (λ worker. worker.post.seat) _ _ c.at-crew.ensures.seats ∙ c.in-Ok.ensures.seats
     ∙ sym (ap (range_with_len 0) c.in-Ok.ensures.stock.takers)
 
 pub run_pool-requires-clause-can : goal.run_pool-requires-clause-can
-run_pool-requires-clause-can g c _ _ =
-    let can = c.in-Ok.ensures.stock.can in record {
-      unread = can.unread;
-      unused = can.unused;
-      fresh = subst (All (IsFresh c.in-Ok.made.2.intake)) (sym c.at-posts.ensures.ends) can.fresh;
-      batches = subst (All (HasBatchFor (g.L.BoardName.rules.parked + 1))) (sym c.at-posts.ensures.rooms) can.batches;
-    }
+run_pool-requires-clause-can g c _ _ = c.in-Ok.ensures.stock.can
+
+pub run_pool-requires-clause-idle : goal.run_pool-requires-clause-idle
+run_pool-requires-clause-idle g c _ _ = c.at-crew.ensures.idle
+
+pub run_pool-requires-clause-ends : goal.run_pool-requires-clause-ends
+run_pool-requires-clause-ends g c _ _ = c.at-crew.ensures.fresh
+
+pub run_pool-requires-clause-rooms : goal.run_pool-requires-clause-rooms
+run_pool-requires-clause-rooms g c _ _ = c.at-crew.ensures.batches
 
 pub run_pool-requires-clause-own : goal.run_pool-requires-clause-own
 run_pool-requires-clause-own g c _ _ =

@@ -9,5 +9,5 @@ returns-in-Ok-new-2-clause-over g c =
     let ended = c.end_streamed-in-Writer-2.ensures in
     let ahead : c.args.options.when_full ≢ GoOn = search rules in
     λ _. is_over _ _ _ _ _ _ _ _ _ _ _ c.record-recorded-in-Writer-2.result c.streamed.result c.in-Writer-2.writer c.in-Writer-2.is
-    ahead c.new-staff.ensures.0 c.new-staff.ensures.1 c.streamed.ensures c.record-recorded-in-Writer-2.ensures.served ended.traced
+    ahead c.staff_of-staff.ensures.0 c.staff_of-staff.ensures.1 c.streamed.ensures c.record-recorded-in-Writer-2.ensures.served ended.traced
     ended.untraced ended.noted
