@@ -86,19 +86,20 @@ def starved(server):
 
 
 def try_no_threads():
-    """None can be started, or some of the four. Nothing is read, nothing is printed, and those that were started end. The trace's file goes, and none that
-    has taken its place."""
+    """None can be started, or some of three, or with `refuse` of four. Nothing is read, nothing is printed, and those that were started end. The trace's file
+    goes, and none that has taken its place."""
+    to_file = "--trace", "{file}"
     with tempfile.TemporaryDirectory(prefix="try-lockd-") as folder:
         os.chmod(folder, 0o755)
         program = shutil.copy(PROGRAM, folder)
         os.chmod(program, 0o755)
-        for threads in 1, 2, 3, 4:
-            for options, left in ((), []), (("--trace", "{file}"), []), (("--trace", "{file}"), ["trace"]):
+        for options, most, left in ((), 3, []), (to_file, 3, []), (to_file, 3, ["trace"]), ((*to_file, "--trace-full", "refuse"), 4, []):
+            for threads in range(1, most + 1):
                 server = Server(*options, workers=4, before=alone(threads), program=program)
                 server.listens()
                 if left:
                     os.replace(shutil.copy(program, f"{server.file}.other"), server.file)
-                assert starved(server) == (b"", b"", "no memory\n", 2), threads
+                assert starved(server) == (b"", b"", "no memory\n", 2), (threads, options)
                 assert os.listdir(server.folder.name) == left, (threads, options)
 
 

@@ -262,15 +262,19 @@ def try_each_number_of_workers():
 
 
 def try_the_number_of_threads():
-    """One worker serves in one thread. Several have a thread each, and another one reads. The default is four workers."""
+    """One worker serves in one thread. Of several, the first works in the thread that reads, and each other one has a thread. With `refuse` the first has
+    one too, since orders may hold it up. The default is four workers."""
     for workers in None, *range(1, 17):
-        server = tracing("none", workers=workers)
-        with Client(server) as client:
-            client.begin()
-            found, wanted = len(os.listdir(f"/proc/{server.serving.pid}/task")), 1 if workers == 1 else (workers or 4) + 1
-            assert found == wanted, (workers, found)
-            client.gets(destroy(3), reply(3))
-        trace_of(server, "none")
+        for way, options, readers in ("none", (), 0), ("file", ("--trace-full", "refuse"), 1):
+            if workers == 1 and options:
+                continue
+            server = tracing(way, *options, workers=workers)
+            with Client(server) as client:
+                client.begin()
+                found, wanted = len(os.listdir(f"/proc/{server.serving.pid}/task")), (workers or 4) + readers
+                assert found == wanted, (workers, way, found)
+                client.gets(destroy(3), reply(3))
+            trace_of(server, way)
 
 
 # ---- each end
