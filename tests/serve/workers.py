@@ -4,6 +4,7 @@ These tries stand apart from `tests/serve/sessions.py`, because one file would b
 these have to give, too. `tries.py` says how it ends.
 """
 import collections
+import itertools
 import os
 import random
 import re
@@ -17,11 +18,13 @@ from tests import tries
 from tests.fuse import (
     EAGAIN, EBADF, ENOENT, ENOMEM, ENOSYS, GETATTR, GETLK, INTERRUPT, NO_LOCK, READ, READ_LOCK, SETLK, SETLKW, WRITE_LOCK, create, destroy, getattr_,
     interrupt, lock_reply, lookup, reply, unique_of)
-from tests.serve.kit import Client, checked, errors_in, forget_each, full, ignores_signal, may_have, orders_of, trace_of, tracing
+from tests.serve.kit import BAD, FILE, Client, checked, errors_in, forget_each, full, ignores_signal, may_have, orders_of, trace_of, tracing
 from tests.tries import INIT, INIT_REPLY, Server, lock, replies, setlk, take
 
 # How many mixed orders a server gets: `ORDERS=1000000 tests/run serve/workers try_mixed_orders` takes half a minute.
 ORDERS = int(os.environ.get("ORDERS", "150000"))
+# How many messages a client sends that waits for each reply: `ALONE=100000 tests/run serve/workers try_messages_that_come_alone_wake_nobody`.
+ALONE = int(os.environ.get("ALONE", "20000"))
 
 
 def asked_in(trace):
@@ -135,6 +138,92 @@ def try_all_that_is_owed():
             client.closes()
             assert client.rest() == [], "more came"
         trace_of(server, lines=300 + 2 * 1_800)
+
+
+def several(unique):
+    """A message whose reply is the same whichever worker is first, this reply, and whether several workers put it into the trace."""
+    return [
+        (lock(SETLK, unique, unique, unique, WRITE_LOCK), reply(unique), True),
+        (lookup(unique, b"none"), reply(unique, ENOENT), True),
+        (fuse.forget(unique, 1), b"", True),
+        (getattr_(unique), fuse.attr_reply(unique, 2, *FILE), False),
+    ][unique % 4]
+
+
+def are_all_answered(server, came, uniques, told="", before=()):
+    """Each of these messages got its one reply, and nothing else came. The trace has those that belong there once, beside the first file's CREATE and the
+    orders before."""
+    wanted = [reply_ for _, reply_, _ in map(several, uniques) if reply_]
+    assert sorted(came) == sorted(wanted), (server.words, uniques, len(came), len(wanted))
+    found, recorded = asked_in(trace_of(server, told=told)), [2, *before, *(it for it in uniques if several(it)[2])]
+    assert sorted(found) == sorted(recorded), (server.words, uniques, len(found), len(recorded))
+
+
+def all_sleep(server):
+    tries.wait_until(lambda: tries.states_of(server.serving) == {"S"})
+
+
+def ends_behind(end, told, count, workers):
+    """So many messages come at once, with this end behind them."""
+    server, uniques = Server(workers=workers), range(4, 4 + count)
+    with Client(server) as client:
+        client.begin()
+        all_sleep(server)
+        client.send(*(several(it)[0] for it in uniques), end)
+        if not end:
+            client.closes()
+        came = client.rest()
+    if end == destroy(3):
+        assert came.pop() == reply(3), (count, workers)
+    are_all_answered(server, came, uniques, told)
+
+
+def try_ends_right_behind_orders():
+    """1 to 40 messages come at once, with an end of the stream, a DESTROY or a bad length behind them. All are answered, and then the DESTROY."""
+    ends = (b"", ""), (destroy(3), ""), (BAD, "bad length 39\n")
+    every = [(*end, count, workers) for count in range(1, 41) for workers in (2, 4, 16) for end in ends]
+    tries.each(ends_behind, every)
+    return f"{len(every)} sessions"
+
+
+def pieces(stream, longest, numbers):
+    """The same bytes, in pieces of one byte to so many."""
+    at = 0
+    while at < len(stream):
+        size = numbers.randint(1, longest)
+        yield stream[at:at + size]
+        at += size
+
+
+def try_bursts_in_pieces():
+    """200 messages come in pieces that end anywhere. Each is answered once."""
+    numbers = random.Random(2)
+    for longest, workers in itertools.product((4, 60, 300, 2000) * 2, (2, 4, 16)):
+        server, uniques = Server(workers=workers), range(3, 203)
+        with Client(server) as client:
+            client.begin()
+            for piece in pieces(b"".join(several(it)[0] for it in uniques), longest, numbers):
+                client.send(piece)
+            client.closes()
+            came = client.rest()
+        are_all_answered(server, came, uniques)
+
+
+def try_a_client_that_closes_while_replies_are_due():
+    """It takes no reply before it has closed its side. 1,000 long ones are due then, which is more than the connection holds, and those to 1 to 40 messages
+    that came when the server could send no more."""
+    for count, workers in itertools.product((1, 15, 16, 17, 40), (2, 4, 16)):
+        server, lookups, uniques = Server(workers=workers), range(100, 1_100), range(4, 4 + count)
+        with Client(server) as client:
+            client.begin()
+            client.send(*(lookup(it) for it in lookups))
+            all_sleep(server)
+            client.send(*(several(it)[0] for it in uniques))
+            client.closes()
+            came = client.rest()
+        long = [it for it in came if len(it) == fuse.ENTRY_SIZE]
+        assert sorted(long) == sorted(fuse.entry_reply(it, 2, *FILE) for it in lookups), (count, workers, len(long))
+        are_all_answered(server, [it for it in came if len(it) != fuse.ENTRY_SIZE], uniques, before=lookups)
 
 
 # ---- orders that wait for each reply
@@ -259,6 +348,50 @@ def try_requests_that_wait_have_no_reply():
             client.closes()
             assert client.rest() == [], workers
         assert sorted(asked_in(trace_of(server, lines=2 + 2 + 200))) == [*range(2, 204)], workers
+
+
+def waits_of(server):
+    """How often each thread of a server has waited so far. The server's first thread reads, and the others only work. It is none where Linux doesn't count."""
+    found, folder = {}, f"/proc/{server.serving.pid}/task"
+    for it in os.listdir(folder):
+        with open(f"{folder}/{it}/status", encoding="ascii") as file:
+            found[int(it)] = sum(int(line.split()[1]) for line in file if line.startswith("voluntary_ctxt_switches:"))
+    return found
+
+
+def asked_alone(unique):
+    """A write lock, a GETLK of another owner, the unlock and a GETATTR, in turn, and the reply."""
+    return [
+        (lock(SETLK, unique, 7, 0, WRITE_LOCK), reply(unique)),
+        (lock(GETLK, unique, 8, 0, READ_LOCK), lock_reply(unique, 0, 0, WRITE_LOCK, 11)),
+        (lock(SETLK, unique, 7, 0, NO_LOCK), reply(unique)),
+        (getattr_(unique), fuse.attr_reply(unique, 2, *FILE)),
+    ][unique % 4]
+
+
+def try_messages_that_come_alone_wake_nobody():
+    """A client waits for each reply. The thread that reads handles each message itself, so the others sleep on, however many come."""
+    said = []
+    for workers in 2, 4, 16:
+        server = tracing("none", workers=workers)
+        with Client(server) as client:
+            client.begin()
+            all_sleep(server)
+            before = waits_of(server)
+            for unique in range(4, 4 + ALONE):
+                client.gets(*asked_alone(unique))
+            after = waits_of(server)
+            client.closes()
+            assert client.rest() == []
+        trace_of(server, "none")
+        assert before.keys() == after.keys() and len(after) == workers, (workers, before, after)
+        reader = server.serving.pid
+        if after[reader] == before[reader]:
+            return "not tried: how often threads wait isn't counted here"
+        woken = sum(after.values()) - sum(before.values()) - after[reader] + before[reader]
+        assert woken < 100, (workers, woken)
+        said.append(woken)
+    return f"{ALONE} messages woke others {said} times"
 
 
 # ---- how they wait
