@@ -27,6 +27,15 @@ ORDERS = int(os.environ.get("ORDERS", "150000"))
 ALONE = int(os.environ.get("ALONE", "20000"))
 
 
+def crews(*numbers):
+    """Each number of workers, and how its server traces. The first of several works in the thread that reads, and takes what comes while the others sleep: that
+    is nearly all. With `refuse` each has a thread of its own, so it is tried, too."""
+    for workers in numbers:
+        yield workers, "printed", ()
+        if workers > 1:
+            yield workers, "file", ("--trace-full", "refuse")
+
+
 def asked_in(trace):
     """The uniques of the orders, as they stand there."""
     return [int(it) for it in re.findall(r"^ask \d+ (\d+) ", trace, re.M)]
@@ -49,12 +58,12 @@ def told_alike(unique):
 def try_answers_that_are_alike_for_all_workers():
     """Each of 1,200 messages gets its one reply, and each order is in the trace once. With several workers the trace has no GETATTR."""
     uniques = range(2, 1202)
-    for workers in 1, 2, 4, 16:
-        server = Server(workers=workers)
+    for workers, way, options in crews(1, 2, 4, 16):
+        server = tracing(way, *options, workers=workers)
         came = replies(server.talk(INIT + b"".join(told_alike(it)[0] for it in uniques)))
         assert sorted(came) == [(1, 0)] + [(it, told_alike(it)[1]) for it in uniques], (workers, len(came))
         orders = [it for it in uniques if it % 6 != 5 and (it % 6 or workers == 1)]
-        found = asked_in(trace_of(server, lines=2 * len(orders)))
+        found = asked_in(trace_of(server, way, lines=2 * len(orders)))
         assert (found if workers == 1 else sorted(found)) == orders, workers
 
 
@@ -88,15 +97,15 @@ def try_mixed_orders():
         by_opcode[fuse.opcode_of(order)].add(unique)
     reads, waits = by_opcode[GETLK] | by_opcode[GETATTR], by_opcode[SETLKW] | by_opcode[INTERRUPT]
     ended = []
-    for workers in 1, 4, 16:
-        server = Server(workers=workers)
+    for workers, way, options in crews(1, 4, 16):
+        server = tracing(way, *options, workers=workers)
         with Client(server) as client:
             client.begin()
             sender = threading.Thread(target=sends, args=(client, chunks))
             sender.start()
             came = replies(take(client.socket, sys.maxsize))
             sender.join()
-        trace = trace_of(server)
+        trace = trace_of(server, way)
         found = [unique for unique, _ in came]
         told = {*found}
         assert len(found) == len(told) and {*uniques} - waits <= told <= {*uniques}, (workers, len(found), len(told))
@@ -122,8 +131,8 @@ def asked(unique):
 def try_all_that_is_owed():
     """3,000 orders in bursts of 1 to 64, each sent when all replies to the one before have come; now and then workers fall asleep first. To each order but
     a FORGET one reply comes, and nothing else. A GETATTR is no line."""
-    for workers in 2, 4, 16:
-        server = Server(workers=workers)
+    for workers, way, options in crews(2, 4, 16):
+        server = tracing(way, *options, workers=workers)
         with Client(server) as client:
             client.gets(INIT, INIT_REPLY)
             first, size = 2, 1
@@ -137,7 +146,7 @@ def try_all_that_is_owed():
                 first, size = first + size, size % 64 + 1
             client.closes()
             assert client.rest() == [], "more came"
-        trace_of(server, lines=300 + 2 * 1_800)
+        trace_of(server, way, lines=300 + 2 * 1_800)
 
 
 def several(unique):
@@ -230,8 +239,8 @@ def try_a_client_that_closes_while_replies_are_due():
 
 def try_a_lock_that_was_set_is_shown():
     """In each of 100 new files the next GETLK of another owner shows it, whichever worker looks. With several it is no line."""
-    for workers in 1, 2, 4, 16:
-        server = Server(workers=workers)
+    for workers, way, options in crews(1, 2, 4, 16):
+        server = tracing(way, *options, workers=workers)
         with Client(server) as client:
             client.gets(INIT, INIT_REPLY)
             for number in range(100):
@@ -240,7 +249,7 @@ def try_a_lock_that_was_set_is_shown():
                 assert (node, fh) == (number + 2, number + 1), (node, fh)
                 client.gets(fuse.lock(SETLK, 3, 7, 0, 9, WRITE_LOCK, node, fh), reply(3))
                 client.gets(fuse.lock(GETLK, 4, 8, 0, 9, READ_LOCK, node, fh), lock_reply(4, 0, 9, WRITE_LOCK, 11))
-        trace_of(server, lines=600 if workers == 1 else 400)
+        trace_of(server, way, lines=600 if workers == 1 else 400)
 
 
 # With one slot of each kind, what looks read is let go after 24 orders that are handed in and no look.
@@ -250,8 +259,9 @@ ONE_SLOT = "--files", "1", "--open", "1", "--runs", "1", "--parked", "1"
 def try_a_lock_after_a_long_time_is_shown():
     """After many orders without a look, what looks read was let go. 64 looks that come together then are shown the lock that was set last, and so are
     later ones. None of them is a line."""
-    for workers, options, count in (2, ONE_SLOT, 60), (16, ONE_SLOT, 600), (4, (), 200_000):
-        server = Server(*options, workers=workers)
+    for (workers, way, more), (rules, count) in [
+        *itertools.product(crews(2, 16), [(ONE_SLOT, 60), (ONE_SLOT, 600)]), *itertools.product(crews(4), [((), 50_000)])]:
+        server = tracing(way, *more, *rules, workers=workers)
         with Client(server) as client:
             client.begin()
             for first in range(3, 3 + count, 64):
@@ -265,13 +275,13 @@ def try_a_lock_after_a_long_time_is_shown():
                 assert sorted(client.some(64)) == sorted(lock_reply(it, 0, 0, WRITE_LOCK, 11) for it in looks), (workers, first)
             client.closes()
             assert client.rest() == []
-        trace_of(server, lines=2 * (count + 2), options=options)
+        trace_of(server, way, lines=2 * (count + 2), options=rules)
 
 
 def try_no_reply_stays_behind():
     """Each order is sent when the reply to the one before has come, so it stands behind that in the trace."""
-    for workers in 1, 4, 16:
-        server = Server(workers=workers)
+    for workers, way, options in crews(1, 4, 16):
+        server = tracing(way, *options, workers=workers)
         with Client(server) as client:
             client.begin()
             for unique in range(3, 10_003):
@@ -281,7 +291,7 @@ def try_no_reply_stays_behind():
             client.closes()
             assert client.rest() == []
         wanted = [2] + [it for it in range(3, 10_003) if workers == 1 or it % 3 != 1]
-        assert asked_in(trace_of(server, lines=2 * len(wanted))) == wanted, workers
+        assert asked_in(trace_of(server, way, lines=2 * len(wanted))) == wanted, workers
 
 
 def try_a_file_goes_by_a_batch():
