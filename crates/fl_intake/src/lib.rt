@@ -9,7 +9,8 @@
 //!   ever, as a `put` would if boxes weren't set free;
 //! - one that wakes nobody or all, a `spin`, `rest` or `call_one_more` that does nothing, an `is_at_rest` that never is
 //!   true, or always, a `close` that only marks its end.
-//! Tests refuse these, but for an `is_at_rest` that is always true. Only `fl_serve_tests` sees that nobody wakes a second worker.
+//! Tests refuse these, but for an `is_at_rest` that is always true. Only `fl_serve_tests` sees that nobody wakes a second
+//! worker.
 #![tactic(auto)]
 
 mod ends;

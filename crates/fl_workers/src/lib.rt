@@ -11,8 +11,8 @@
 //! - a `new` of room that is always refused;
 //! - a `SharedSender` that is broken at once, collects nothing, or says that what it was given isn't by those who gave
 //!   it, and a `receive_all` that sends late or never what it collected.
-//! `fl_workers_tests`, `fl_serve_tests` and `tests/serve/workers.py` refuse these; what the counter sends is seen by
-//! `tests/serve/traces.py` alone.
+//! `fl_workers_tests`, `fl_serve_tests` and `tests/serve/workers.py` refuse these, but for a dispatcher that always gives
+//! orders to the inline worker. What the counter sends is seen by `tests/serve/traces.py` alone.
 #![tactic(auto)]
 
 mod dispatcher;
