@@ -13,7 +13,6 @@ use std::marker::Model;
 
 /// The replies that one order gives, with room for all that one gives under the rules that it was made by. Contracts
 /// see their list and the room.
-#[derive(Drop)]
 pub struct Tolds {
     tolds: Vec<Told>,
 }
@@ -25,6 +24,13 @@ impl Model for Tolds {
     ghost Value = { Replies };
 
     ghost view = { λ t. record { told = t.tolds.items; room = vec_capacity t.tolds } };
+}
+
+impl Drop for Tolds {
+    // One call for an owner, and not a step for each part.
+    fn drop(self) {
+        let Tolds { tolds: _tolds } = self;
+    }
 }
 
 impl Tolds {

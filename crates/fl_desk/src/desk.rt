@@ -20,7 +20,6 @@ use std::marker::Model;
 /// A desk that takes orders one after another, and keeps their history where its journal puts the lines: in memory,
 /// if nothing else is said. Contracts see it as a `Book`: its lines, those that its journal stored, what is there
 /// now, and for how many more lines there is room.
-#[derive(Drop)]
 pub struct Desk<J: Journal = Lines> {
     journal: J,
     present: Core,
@@ -42,6 +41,16 @@ impl<J: Journal> Model for Desk<J> {
     } };
 
     ghost invariant = { λ d. IsKept (J.lines d.journal) d.present };
+}
+
+impl<J: Journal + Drop> Drop for Desk<J> {
+    // One call for an owner, and not a step for each part.
+    fn drop(self) {
+        let Desk {
+            journal: _journal,
+            present: _present,
+        } = self;
+    }
 }
 
 impl<J: Journal> Desk<J> {

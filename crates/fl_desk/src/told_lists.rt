@@ -13,7 +13,6 @@ pub const MOST_IN_BATCH: usize = 16;
 
 /// The replies to a batch of orders that were taken one after another: a list for each of at most 16. Contracts see the
 /// lists; for how many replies there is room in all, and for how many more; and for how many lists.
-#[derive(Drop)]
 pub struct ToldLists {
     // All replies, in their order.
     tolds: Vec<Told>,
@@ -42,6 +41,16 @@ impl Model for ToldLists {
     } };
 
     ghost invariant = { λ l. All (λ span. span.start + span.len ≤ length l.tolds.items) l.spans.items };
+}
+
+impl Drop for ToldLists {
+    // One call for an owner, and not a step for each part.
+    fn drop(self) {
+        let ToldLists {
+            tolds: _tolds,
+            spans: _spans,
+        } = self;
+    }
 }
 
 impl ToldLists {

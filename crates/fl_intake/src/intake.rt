@@ -265,7 +265,7 @@ impl Intake {
             boxes,
             waking: _waking,
         } = self;
-        let PutEnd { pass, room, .. } = put;
+        let (pass, room) = put.into_parts();
         let pass = merged(&queue, pass, takes);
         Ok(drained(rt, &queue, &boxes, pass, room))
     }
@@ -283,7 +283,7 @@ fn merged(queue: &OrderQueue, pass: EndPass, takes: Vec<TakeEnd>) -> EndPass
 {
     let mut pass = pass;
     for end in takes {
-        let TakeEnd { pass: other } = end;
+        let other = end.into_pass();
         queue.absorb::<Sharing>(&mut pass, other);
     }
     pass

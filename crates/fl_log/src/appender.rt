@@ -7,7 +7,6 @@ use std::sync::ledger::Share;
 
 /// What an author appends through. Contracts see whose it is, how many entries were appended through it, and the log
 /// up to the last of them.
-#[derive(Drop)]
 pub struct Appender<L: LogName, E: Entry> {
     pub(crate) author: u32,
     pub(crate) share: Share<L>,
@@ -25,6 +24,17 @@ impl<L: LogName, E: Entry> Model for Appender<L, E> {
     ghost invariant = { λ a. (a.share.parts ≡ 1) × (a.share.amount ≤ length (entries_by E.author a.author a.upto)) };
 }
 
+impl<L: LogName, E: Entry> Drop for Appender<L, E> {
+    // One call for an owner, and not a step for each part.
+    fn drop(self) {
+        let Appender {
+            author: _author,
+            share: _share,
+            upto: _upto,
+        } = self;
+    }
+}
+
 impl<L: LogName, E: Entry> Appender<L, E> {
     ghost use Rattle.std.specs.Prelude.{◌≡◌, true};
     ghost use Rattle.fl_log.specs.Appended.{HasMost};
@@ -34,6 +44,19 @@ impl<L: LogName, E: Entry> Appender<L, E> {
         ensures { result ≡ self.now.author }
     {
         self.author
+    }
+
+    // Its part of the ledger.
+    pub(crate) fn into_share(self) -> Share<L>
+        ensures parts { result.parts ≡ 1 }
+        ensures amount { result.amount ≡ self.count }
+    {
+        let Appender {
+            author: _,
+            share,
+            upto: _upto,
+        } = self;
+        share
     }
 
     // Whether a log begins with all that was appended through it.

@@ -13,7 +13,6 @@ pub const MOST_ENTRIES: u64 = 1 << 62;
 
 /// A beginning of the log, which was seen at some time. Contracts see it as its entries, the first one first. It is as
 /// large as its length, a number.
-#[derive(Drop)]
 pub struct Beginning<L: LogName, E> {
     entries: u64,
     seen: Seen<E, u64, Counting>,
@@ -28,6 +27,17 @@ impl<L: LogName, E> Model for Beginning<L, E> {
     ghost view = { λ b. b.seen.log };
 
     ghost invariant = { λ b. (b.entries ≡ length b.seen.log) × (b.seen.book ≡ L.log) };
+}
+
+impl<L: LogName, E> Drop for Beginning<L, E> {
+    // One call for an owner, and not a step for each part.
+    fn drop(self) {
+        let Beginning {
+            entries: _entries,
+            seen: _seen,
+            name: _,
+        } = self;
+    }
 }
 
 impl<L: LogName, E> Beginning<L, E> {

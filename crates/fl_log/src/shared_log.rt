@@ -12,7 +12,6 @@ use std::marker::Model;
 use std::sync::ledger::{Blank, Book, Share};
 
 /// A log, all of it, and the ledger that counts its entries. It lies under a lock. Contracts see it as its entries.
-#[derive(Drop)]
 pub struct SharedLog<L: LogName, E: Entry> {
     log: Log<L, E>,
     all: Beginning<L, E>,
@@ -27,6 +26,17 @@ impl<L: LogName, E: Entry> Model for SharedLog<L, E> {
     ghost view = { λ s. s.all };
 
     ghost invariant = { λ s. s.book.total ≡ length s.all };
+}
+
+impl<L: LogName, E: Entry> Drop for SharedLog<L, E> {
+    // One call for an owner, and not a step for each part.
+    fn drop(self) {
+        let SharedLog {
+            log: _log,
+            all: _all,
+            book: _book,
+        } = self;
+    }
 }
 
 impl<L: LogName, E: Entry> SharedLog<L, E> {
@@ -145,10 +155,9 @@ fn merged<L: LogName, E: Entry>(appenders: Vec<Appender<L, E>>) -> Option<Share<
     ensures amount { IfSome result (λ all. all.amount ≡ sum_by (λ appender. appender.count) appenders.items) }
 {
     let mut appenders = appenders;
-    let Appender { share, .. } = appenders.pop()?;
-    let mut all = share;
+    let mut all = appenders.pop()?.into_share();
     while let Some(appender) = appenders.pop() {
-        let Appender { share, .. } = appender;
+        let share = appender.into_share();
         all.merge(share);
     }
     Some(all)

@@ -27,7 +27,6 @@ pub enum Filled {
 }
 
 /// The bytes that were read from a stream and not taken yet. There is room for a message of any length.
-#[derive(Drop)]
 pub struct Inbox {
     buffer: Vec<u8>,
     // The bytes stand in the buffer from here,
@@ -47,6 +46,18 @@ impl Model for Inbox {
     ghost view = { λ b. record { rest = take (b.filled - b.from) (drop b.from b.buffer.items); reads = b.reads } };
 
     ghost invariant = { λ b. (vec_len b.buffer ≡ 8192) × (b.from ≤ b.filled) × (b.filled ≤ 8192) };
+}
+
+impl Drop for Inbox {
+    // One call for an owner, and not a step for each part.
+    fn drop(self) {
+        let Inbox {
+            buffer: _buffer,
+            from: _from,
+            filled: _filled,
+            reads: _reads,
+        } = self;
+    }
 }
 
 impl Inbox {

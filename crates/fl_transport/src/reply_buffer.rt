@@ -17,7 +17,6 @@ const REPLY_BYTES: usize = 160;
 const BATCH_BYTES: usize = 672;
 
 /// Where replies are laid out, each by itself or one behind the other. Contracts see the bytes that lie there.
-#[derive(Drop)]
 pub struct ReplyBuffer {
     bytes: Vec<u8>,
 }
@@ -30,6 +29,13 @@ impl Model for ReplyBuffer {
     ghost view = { λ r. r.bytes.items };
 
     ghost invariant = { λ r. 160 ≤ vec_capacity r.bytes };
+}
+
+impl Drop for ReplyBuffer {
+    // One call for an owner, and not a step for each part.
+    fn drop(self) {
+        let ReplyBuffer { bytes: _bytes } = self;
+    }
 }
 
 impl ReplyBuffer {

@@ -10,12 +10,21 @@ use fl_order::NoMemory;
 use std::alloc::Global;
 
 /// Room for the replies to a batch of orders.
-#[derive(Drop)]
 pub struct ReplyRoom {
     /// For those to one order, while it is taken.
     pub tolds: Tolds,
     /// For those to all orders that were taken together, a list for each.
     pub lists: ToldLists,
+}
+
+impl Drop for ReplyRoom {
+    // One call for an owner, and not a step for each part.
+    fn drop(self) {
+        let ReplyRoom {
+            tolds: _tolds,
+            lists: _lists,
+        } = self;
+    }
 }
 
 impl ReplyRoom {

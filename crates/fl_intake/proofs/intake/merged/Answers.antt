@@ -14,7 +14,7 @@ pub loop-end-preserved : goal.loop-end-preserved
 loop-end-preserved c =
     let kept = c.loop-end.invariant in
     let joined = c.absorb.ensures.rule in
-    let other = c.end.invariant.1 in
+    let other = c.into_pass-other.ensures.known in
     let rest = c.in-Some.ensures.steps.0 in
     let is_here = λ (end : TakeSide). end.of ≡ c.args.queue.now.table.shared.table_id in (
       search rules,
@@ -25,15 +25,15 @@ loop-end-preserved c =
         arith,
         kept.4 weight,
         ap (put_by weight) joined,
-        sum_by-append weight (view c.loop-end.pass).put (view c.end.inside.pass).put,
+        sum_by-append weight (view c.loop-end.pass).put (view c.into_pass-other.result).put,
         ap (put_by weight) other,
       ),
       λ weight. omega (
         arith,
         kept.5 weight,
         ap (taken_by weight) joined,
-        sum_by-append weight (view c.loop-end.pass).taken (view c.end.inside.pass).taken,
-        ap (λ (end : TakeSide). sum_by weight end.taken) c.end.view_is,
+        ap (taken_by weight) other,
+        sum_by-append weight (view c.loop-end.pass).taken (view c.into_pass-other.result).taken,
         ap (weight_taken weight) rest,
         sum_by-cons (λ (end : TakeSide). sum_by weight end.taken) c.in-Some.end c.next.new.self.rest.items,
       ),

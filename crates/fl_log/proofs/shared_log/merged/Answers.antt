@@ -6,6 +6,6 @@ pub loop-appender-preserved : goal.loop-appender-preserved
 loop-appender-preserved g c =
     let so_far = c.loop-appender.invariant in
     let popped = one_popped (λ (a : _). a.count) _ _ _ c.in-Some.appender c.pop-in-loop-appender.ensures.items c.in-Some.is in (
-      omega (arith, so_far.0, popped.0, c.merge.ensures.parts, c.appender.invariant.0),
-      omega (arith, so_far.1, popped.1, c.merge.ensures.amount, ap (λ (a : _). a.count) c.appender.view_is),
+      omega (arith, so_far.0, popped.0, c.merge.ensures.parts, c.into_share-share.ensures.parts),
+      omega (arith, so_far.1, popped.1, c.merge.ensures.amount, c.into_share-share.ensures.amount),
     )
