@@ -127,7 +127,7 @@ def try_a_server_with_requests_that_wait():
     return serve_each(waiting(), 4)
 
 
-# With one slot of each kind, what looks read is let go after 24 orders that are handed in and no look.
+# With one slot of each kind, what looks read is let go after 4 orders that are handed in and no look.
 ONE_SLOT = "--files", "1", "--open", "1", "--runs", "1", "--parked", "1"
 
 

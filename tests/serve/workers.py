@@ -252,7 +252,7 @@ def try_a_lock_that_was_set_is_shown():
         trace_of(server, way, lines=600 if workers == 1 else 400)
 
 
-# With one slot of each kind, what looks read is let go after 24 orders that are handed in and no look.
+# With one slot of each kind, what looks read is let go after 4 orders that are handed in and no look.
 ONE_SLOT = "--files", "1", "--open", "1", "--runs", "1", "--parked", "1"
 
 

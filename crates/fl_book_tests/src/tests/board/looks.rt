@@ -124,11 +124,11 @@ fn idle<L: BoardName, R: Wait + Abort>(
     closed(rt, board, seats)
 }
 
-// With four slots, 24 orders are long enough. Copies that were made anew stay.
+// With twenty slots, 20 orders are long enough. Copies that were made anew stay.
 #[test]
 fn looks_find_nothing_after_many_orders_until_copies_are_made_anew(rt: HostRuntime) {
-    let limited = Rules::standard().with_limits(1, 1);
-    let rules = limited.expect(&rt, "rules").with_files(1, 1);
+    let limited = Rules::standard().with_limits(5, 5);
+    let rules = limited.expect(&rt, "rules").with_files(5, 5);
     let rules = rules.expect(&rt, "rules");
     let history = idle::<Brand, _>(&rt, rt.alloc(), Blank::new(1), FreshLog::new(), rules);
     has_lines(&rt, &history, 160);
