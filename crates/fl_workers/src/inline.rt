@@ -18,6 +18,7 @@ use std::sync::{Mutex, Wait};
 /// A worker in the thread of the receiver, which takes orders before they go to others. Contracts see where it stands,
 /// its end of the intake, through which it takes none, the orders that wait for it, at most 16, and what went wrong with
 /// those before.
+#[derive(Drop)]
 pub struct InlineWorker<C: Counter, N: WriterName> {
     post: Post<C::Seat, N>,
     end: TakeEnd,
@@ -43,18 +44,6 @@ impl<C: Counter, N: WriterName> Model for InlineWorker<C, N> {
     } };
 
     ghost invariant = { λ w. (0 < vec_capacity w.room.batch) × HasRoomFor C.most_tolds w.room.replies };
-}
-
-impl<C: Counter, N: WriterName> Drop for InlineWorker<C, N> {
-    // One call for an owner, and not a step for each part.
-    fn drop(self) {
-        let InlineWorker {
-            post: _post,
-            end: _end,
-            room: _room,
-            failures: _failures,
-        } = self;
-    }
 }
 
 impl<C: Counter, N: WriterName> InlineWorker<C, N> {
@@ -90,8 +79,8 @@ impl<C: Counter, N: WriterName> InlineWorker<C, N> {
         let InlineWorker {
             post,
             end,
-            room: _room,
             failures,
+            ..
         } = self;
         (post, end, failures)
     }

@@ -35,6 +35,7 @@ impl WriterName for Brand {
 /// and go out together, once the session has begun: before, nothing is collected or sent. Contracts see what the writer
 /// holds, the bytes that are collected, whether a write failed, whether it has begun, and a log of all that was given
 /// to be sent, with who gave it. The writer has the bytes of that log, or a beginning of them after a failed write.
+#[derive(Drop)]
 pub struct SharedSender<'a, W: Write, N: WriterName> {
     batch: ReplyBatch<'a, W>,
     begun: bool,
@@ -54,17 +55,6 @@ impl<'a, W: Write, N: WriterName> Model for SharedSender<'a, W, N> {
     ghost invariant = { λ s. ((writer_of s.batch.out).ghost_name ≡ N.writer)
         × IsGiven N.start (outgoing W.contents s.batch) (spelled s.log)
         × (s.begun ≡ false → (W.contents (writer_of s.batch.out).now ≡ N.start) × (s.batch.replies ≡ [])) };
-}
-
-impl<'a, W: Write, N: WriterName> Drop for SharedSender<'a, W, N> {
-    // One call for an owner, and not a step for each part.
-    fn drop(self) {
-        let SharedSender {
-            batch: _batch,
-            begun: _begun,
-            log: _log,
-        } = self;
-    }
 }
 
 impl<'a, W: Write, N: WriterName> SharedSender<'a, W, N> {
