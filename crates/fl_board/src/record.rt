@@ -7,7 +7,7 @@ ghost use Rattle.fl_board.specs.Inside.Asks.{HasMostOf, history_of};
 ghost use Rattle.fl_board.specs.Shown.{AreHandedIn, IsHandedIn};
 ghost use Rattle.fl_core.specs.Tolds.{HasRoom};
 ghost use Rattle.fl_log.specs.Longer.{IsLonger};
-ghost use Rattle.fl_log.specs.Asks.{ask_of};
+ghost use Rattle.fl_log.specs.Asked.{ask_of};
 ghost use Rattle.fl_log.specs.declared.ask.Ask.{Ask as Handed};
 
 use crate::asks::asks_lead;
@@ -15,10 +15,9 @@ use crate::seat::Seat;
 use fl_core::{Rules, Tolds};
 use fl_desk::{Desk, HandFault, MOST_IN_BATCH, ToldLists};
 use fl_history::Journal;
-use fl_log::{
-    AsAsk, Ask, Asking, Beginning, BoardName, FreshLog, Log, MOST_ENTRIES, ReplicaWriter,
-};
+use fl_log::{AsAsk, Ask, Asking, Beginning, FreshLog, Log, MOST_ENTRIES};
 use fl_order::{NoMemory, Order};
+use fl_replica::{BoardName, ReplicaWriter};
 use std::alloc::Global;
 use std::marker::Model;
 use std::mem;
@@ -42,7 +41,7 @@ impl<L: BoardName, R: Wait + Drop + Copy, J: Journal> Model for Record<L, R, J> 
     ghost use Rattle.fl_board.specs.Inside.Asks.{history_of};
     ghost use Rattle.fl_desk.specs.Legal.{orders_asked};
     ghost use Rattle.fl_board.specs.Inside.Recorded.{Recorded};
-    ghost use Rattle.fl_log.specs.Asks.{present_after};
+    ghost use Rattle.fl_replica.specs.Asks.{present_after};
 
     ghost Value = { Recorded };
 

@@ -10,8 +10,9 @@ ghost use Rattle.fl_order.specs.Order.{only_reads};
 
 use crate::asks::asks_lead;
 use fl_desk::NoView;
-use fl_log::{Ask, Beginning, BoardName, Replica, look_at};
+use fl_log::{Ask, Beginning};
 use fl_order::{Answer, Errno, Order};
+use fl_replica::{BoardName, Replica, look_at};
 use left_right::ReadHandle;
 use std::marker::Model;
 use std::sync::ledger::Share;

@@ -31,7 +31,7 @@ pub struct AsAsk;
 
 impl<'a> Plain<Asking<'a>, Ask, u64> for AsAsk {
     ghost use Rattle.std.specs.Prelude.{None};
-    ghost use Rattle.fl_log.specs.Asks.{ask_of};
+    ghost use Rattle.fl_log.specs.Asked.{ask_of};
 
     ghost ask = { λ asking. ask_of asking.worker asking.order.now };
 

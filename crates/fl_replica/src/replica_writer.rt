@@ -4,14 +4,13 @@ ghost use Rattle.std.specs.Prelude.{◌≡◌, ◌<◌, ◌^◌, ◌⊎◌, ◌�
 ghost use Rattle.left_right.specs.Handles.{published, pending};
 ghost use Rattle.fl_core.specs.Replies.{own_replies};
 ghost use Rattle.fl_core.specs.Step.{next, replies};
-ghost use Rattle.fl_log.specs.Asks.{present_after};
-ghost use Rattle.fl_log.specs.Inside.Updates.{in_the_end};
+ghost use Rattle.fl_replica.specs.Asks.{present_after};
+ghost use Rattle.fl_replica.specs.Inside.Updates.{in_the_end};
 
-use crate::ask::Ask;
-use crate::beginning::Beginning;
 use crate::board_name::BoardName;
 use crate::replica::{Replica, Update};
 use fl_core::Core;
+use fl_log::{Ask, Beginning};
 use fl_order::{Answer, Errno, NoMemory, Op, Order};
 use left_right::{Absorb, ReadHandle, WriteHandle};
 use std::alloc::{AllocError, Global};
@@ -48,8 +47,8 @@ where
     Replica<L>: Absorb<Update<L>, State = Beginning<L, Ask>>,
 {
     ghost use Rattle.std.specs.Prelude.{◌≡◌, IfSome, option_map};
-    ghost use Rattle.fl_log.specs.Asks.{Publication};
-    ghost use Rattle.fl_log.specs.Inside.Updates.{in_the_end};
+    ghost use Rattle.fl_replica.specs.Asks.{Publication};
+    ghost use Rattle.fl_replica.specs.Inside.Updates.{in_the_end};
     ghost use Rattle.left_right.specs.Handles.{published, pending};
 
     ghost Value = { Publication };

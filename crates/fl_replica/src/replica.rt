@@ -3,13 +3,12 @@
 ghost use Rattle.std.specs.Prelude.{◌≡◌, ◌↔◌, true, Some, IfOk, IfSome, IsSome};
 ghost use Rattle.fl_core.specs.Replies.{own_replies};
 ghost use Rattle.fl_core.specs.Step.{next, replies};
-ghost use Rattle.fl_log.specs.Asks.{present_after};
+ghost use Rattle.fl_replica.specs.Asks.{present_after};
 ghost use Rattle.fl_order.specs.Order.{only_reads};
 
-use crate::ask::Ask;
-use crate::beginning::Beginning;
 use crate::board_name::BoardName;
 use fl_core::{Core, Tolds};
+use fl_log::{Ask, Beginning};
 use fl_order::{Answer, Errno, NoMemory, Order};
 use left_right::{Absorb, ReadHandle};
 use std::alloc::{AllocError, Global};
@@ -29,7 +28,7 @@ impl<L: BoardName> Model for Update<L> {
     ghost use Rattle.std.specs.Prelude.{◌≡◌, IfSome};
     ghost use Rattle.fl_core.specs.Replies.{own_replies};
     ghost use Rattle.fl_core.specs.Step.{next, replies};
-    ghost use Rattle.fl_log.specs.Asks.{Extension, present_after};
+    ghost use Rattle.fl_replica.specs.Asks.{Extension, present_after};
 
     ghost Value = { Extension };
 
@@ -74,7 +73,7 @@ impl<L: BoardName> Model for Replica<L> {
     ghost use Rattle.std.specs.Prelude.{◌≡◌, List};
     ghost use Rattle.fl_core.specs.Tolds.{HasRoom};
     ghost use Rattle.fl_log.specs.declared.ask.Ask.{Ask};
-    ghost use Rattle.fl_log.specs.Asks.{present_after};
+    ghost use Rattle.fl_replica.specs.Asks.{present_after};
 
     ghost Value = { List Ask };
 
@@ -120,7 +119,7 @@ impl<L: BoardName> Replica<L> {
 }
 
 impl<L: BoardName> Absorb<Update<L>> for Replica<L> {
-    ghost use Rattle.fl_log.specs.Inside.Updates.{extended};
+    ghost use Rattle.fl_replica.specs.Inside.Updates.{extended};
 
     type State = Beginning<L, Ask>;
 
