@@ -7,8 +7,7 @@ ghost use Rattle.fl_board.specs.Inside.Asks.{HasMostOf, history_of};
 ghost use Rattle.fl_board.specs.Shown.{AreHandedIn, IsHandedIn};
 ghost use Rattle.fl_core.specs.Tolds.{HasRoom};
 ghost use Rattle.fl_log.specs.Longer.{IsLonger};
-ghost use Rattle.fl_log.specs.Asked.{ask_of};
-ghost use Rattle.fl_log.specs.declared.ask.Ask.{Ask as Handed};
+ghost use Rattle.fl_log.specs.Asked.{Ask as Handed, ask_of};
 
 use crate::asks::asks_lead;
 use crate::seat::Seat;

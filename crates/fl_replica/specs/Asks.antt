@@ -3,7 +3,7 @@ use Rattle.std.specs.Prelude.{List, Option}
 use Rattle.std.specs.List.{fold}
 use Rattle.fl_core.specs.State.{Snapshot, opening, snapshot_of}
 use Rattle.fl_core.specs.Step.{next}
-use Rattle.fl_log.specs.declared.ask.Ask.{Ask}
+use Rattle.fl_log.specs.Asked.{Ask}
 use Rattle.fl_order.specs.declared.order.Order.{Order}
 use Rattle.fl_waiting.specs.declared.rules.Rules.{Rules}
 

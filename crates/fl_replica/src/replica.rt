@@ -72,7 +72,7 @@ pub struct Replica<L: BoardName> {
 impl<L: BoardName> Model for Replica<L> {
     ghost use Rattle.std.specs.Prelude.{◌≡◌, List};
     ghost use Rattle.fl_core.specs.Tolds.{HasRoom};
-    ghost use Rattle.fl_log.specs.declared.ask.Ask.{Ask};
+    ghost use Rattle.fl_log.specs.Asked.{Ask};
     ghost use Rattle.fl_replica.specs.Asks.{present_after};
 
     ghost Value = { List Ask };
