@@ -15,5 +15,5 @@ mod replica;
 mod replica_writer;
 
 pub use board_name::BoardName;
-pub use replica::{Replica, Update, look_at};
+pub use replica::{Replica, ReplicaReader, Update, look_at};
 pub use replica_writer::ReplicaWriter;
