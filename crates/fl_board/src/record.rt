@@ -112,24 +112,17 @@ impl<L: BoardName, R: Wait + Drop + Copy, J: Journal> Record<L, R, J> {
         ensures refused { OnErr result ((seat.new ≡ seat.old) × (tolds.new ≡ tolds.old)
             × (self.new.asks ≡ self.old.asks) × (self.new.shown ≡ self.old.shown)) }
     {
-        let Record {
-            desk,
-            book,
-            log,
-            all,
-            writer,
-        } = self;
         asks_lead();
-        let before = match entered(desk, log, all, seat, order) {
+        let before = match entered(&mut self.desk, &self.log, &mut self.all, seat, order) {
             Ok(before) => before,
             Err(fault) => return Err(fault),
         };
-        let Ok(()) = desk.take(seat.worker, order, tolds) else {
+        let Ok(()) = self.desk.take(seat.worker, order, tolds) else {
             unreachable!();
         };
-        book.add(&mut seat.share, 1);
-        writer.add(order, tolds.own_alone(order), &before, all);
-        seat.handed = all.again();
+        self.book.add(&mut seat.share, 1);
+        self.writer.add(order, tolds.own_alone(order), &before, &self.all);
+        seat.handed = self.all.again();
         Ok(())
     }
 
