@@ -14,8 +14,8 @@ use Rattle.fl_history.specs.declared.history.Line.{Line}
 use Rattle.fl_history.specs.declared.history.Line.TheVariants as line
 use Rattle.fl_order.specs.declared.order.Order.{Order}
 use Rattle.fl_order.specs.declared.told.Told.{Told}
-use Rattle.fl_log.specs.Asks.{present_after}
-use Rattle.fl_log.specs.declared.ask.Ask.{Ask}
+use Rattle.fl_replica.specs.Asks.{present_after}
+use Rattle.fl_log.specs.Asked.{Ask}
 use Rattle.fl_waiting.specs.declared.rules.Rules.{Rules}
 
 -- ---- lines that begin with an order, or none, add to no replies before them

@@ -17,8 +17,9 @@ use crate::shared::Shared;
 use fl_core::{Rules, Tolds};
 use fl_desk::{HandFault, NoView, Outgoing, ToldLists};
 use fl_history::{History, Journal, Lines};
-use fl_log::{Ask, Beginning, BoardName, FreshLog, ReplicaWriter};
+use fl_log::{Ask, Beginning, FreshLog};
 use fl_order::{Answer, Errno, NoMemory, Order};
+use fl_replica::{BoardName, ReplicaWriter};
 use std::alloc::{AllocError, Global};
 use std::sync::atomic::{AtomicBool, AtomicU64, Ordering};
 use std::sync::ledger::{Blank, Share};
@@ -30,7 +31,8 @@ const PAUSE: u64 = 100;
 
 /// A board of 1 to 16 workers, whose lines go to a journal: they stay in memory, if nothing else is said.
 pub struct Board<L: BoardName, R: Wait + Drop + Copy, J: Journal = Lines> {
-    shared: Mutex<Shared<L, R, J>>,
+    // In a box: a proof spells out the layout of what a `Mutex` has.
+    shared: Mutex<Box<Shared<L, R, J>>>,
     alloc: Global,
     // Somebody looked since orders were handed in together last.
     looked: AtomicBool,
@@ -138,6 +140,9 @@ impl<L: BoardName, R: Wait + Drop + Copy, J: Journal> Board<L, R, J> {
             rest,
             workers,
         )?;
+        let Ok(shared) = Box::new(alloc, shared) else {
+            return Err(OpenFault::NoMemory);
+        };
         let board = Board {
             shared: Mutex::new(shared),
             alloc,
@@ -327,7 +332,7 @@ impl<L: BoardName, R: Wait + Drop + Copy, J: Journal> Board<L, R, J> {
             return Err(CloseFault::NoView { board, seats });
         }
         let mut whole = merged(seats);
-        Ok(shared.into_journal(&mut whole))
+        Ok(Box::into_inner(shared).into_journal(&mut whole))
     }
 }
 

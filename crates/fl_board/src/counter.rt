@@ -9,8 +9,8 @@ use crate::seat::Seat;
 use fl_core::Tolds;
 use fl_desk::{Counter, HandFault, NoView, Outgoing, ToldLists};
 use fl_history::Journal;
-use fl_log::BoardName;
 use fl_order::{Answer, Errno, Order};
+use fl_replica::BoardName;
 use std::sync::Wait;
 
 impl<L: BoardName, P: Wait + Drop + Copy, J: Journal> Counter for Board<L, P, J> {

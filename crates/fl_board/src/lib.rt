@@ -33,5 +33,6 @@ mod shared;
 
 pub use board::{Board, CloseFault, OpenFault};
 pub use fl_desk::{HandFault, NoView};
-pub use fl_log::{Ask, BoardName, FreshLog, LogName};
+pub use fl_log::{Ask, FreshLog, LogName};
+pub use fl_replica::BoardName;
 pub use seat::Seat;

@@ -7,18 +7,16 @@ ghost use Rattle.fl_board.specs.Inside.Asks.{HasMostOf, history_of};
 ghost use Rattle.fl_board.specs.Shown.{AreHandedIn, IsHandedIn};
 ghost use Rattle.fl_core.specs.Tolds.{HasRoom};
 ghost use Rattle.fl_log.specs.Longer.{IsLonger};
-ghost use Rattle.fl_log.specs.Asks.{ask_of};
-ghost use Rattle.fl_log.specs.declared.ask.Ask.{Ask as Handed};
+ghost use Rattle.fl_log.specs.Asked.{Ask as Handed, ask_of};
 
 use crate::asks::asks_lead;
 use crate::seat::Seat;
 use fl_core::{Rules, Tolds};
 use fl_desk::{Desk, HandFault, MOST_IN_BATCH, ToldLists};
 use fl_history::Journal;
-use fl_log::{
-    AsAsk, Ask, Asking, Beginning, BoardName, FreshLog, Log, MOST_ENTRIES, ReplicaWriter,
-};
+use fl_log::{AsAsk, Ask, Asking, Beginning, FreshLog, Log, MOST_ENTRIES};
 use fl_order::{NoMemory, Order};
+use fl_replica::{BoardName, ReplicaWriter};
 use std::alloc::Global;
 use std::marker::Model;
 use std::mem;
@@ -42,7 +40,7 @@ impl<L: BoardName, R: Wait + Drop + Copy, J: Journal> Model for Record<L, R, J> 
     ghost use Rattle.fl_board.specs.Inside.Asks.{history_of};
     ghost use Rattle.fl_desk.specs.Legal.{orders_asked};
     ghost use Rattle.fl_board.specs.Inside.Recorded.{Recorded};
-    ghost use Rattle.fl_log.specs.Asks.{present_after};
+    ghost use Rattle.fl_replica.specs.Asks.{present_after};
 
     ghost Value = { Recorded };
 
@@ -114,24 +112,17 @@ impl<L: BoardName, R: Wait + Drop + Copy, J: Journal> Record<L, R, J> {
         ensures refused { OnErr result ((seat.new ≡ seat.old) × (tolds.new ≡ tolds.old)
             × (self.new.asks ≡ self.old.asks) × (self.new.shown ≡ self.old.shown)) }
     {
-        let Record {
-            desk,
-            book,
-            log,
-            all,
-            writer,
-        } = self;
         asks_lead();
-        let before = match entered(desk, log, all, seat, order) {
+        let before = match entered(&mut self.desk, &self.log, &mut self.all, seat, order) {
             Ok(before) => before,
             Err(fault) => return Err(fault),
         };
-        let Ok(()) = desk.take(seat.worker, order, tolds) else {
+        let Ok(()) = self.desk.take(seat.worker, order, tolds) else {
             unreachable!();
         };
-        book.add(&mut seat.share, 1);
-        writer.add(order, tolds.own_alone(order), &before, all);
-        seat.handed = all.again();
+        self.book.add(&mut seat.share, 1);
+        self.writer.add(order, tolds.own_alone(order), &before, &self.all);
+        seat.handed = self.all.again();
         Ok(())
     }
 

@@ -10,9 +10,9 @@ ghost use Rattle.fl_order.specs.Order.{only_reads};
 
 use crate::asks::asks_lead;
 use fl_desk::NoView;
-use fl_log::{Ask, Beginning, BoardName, Replica, look_at};
+use fl_log::{Ask, Beginning};
 use fl_order::{Answer, Errno, Order};
-use left_right::ReadHandle;
+use fl_replica::{BoardName, ReplicaReader, look_at};
 use std::marker::Model;
 use std::sync::ledger::Share;
 
@@ -22,7 +22,7 @@ use std::sync::ledger::Share;
 pub struct Seat<L: BoardName> {
     pub(crate) worker: u32,
     pub(crate) share: Share<L>,
-    pub(crate) reader: ReadHandle<Replica<L>>,
+    pub(crate) reader: ReplicaReader<L>,
     pub(crate) handed: Beginning<L, Ask>,
     pub(crate) seen: Beginning<L, Ask>,
     pub(crate) stored: Beginning<L, Ask>,

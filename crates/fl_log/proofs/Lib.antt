@@ -1,4 +1,3 @@
 mod Adding
 mod Counts
-mod Nothing
 mod Prefixes

@@ -1,4 +1,3 @@
--- The word of a log; what an update does to a copy, and what is published in the end.
+-- The word of a log.
 -- No contract of a public function cites these definitions.
 pub mod Counting
-pub mod Updates

@@ -3,14 +3,18 @@
 use crate::log::Entry;
 use fl_order::Order;
 use logbook::Plain;
+use std::marker::Model;
 
-/// An order, and the worker who handed it in.
-#[derive(Clone, Copy, Debug, PartialEq, Eq)]
-pub struct Ask {
-    /// The worker's number, from 0.
-    pub worker: u32,
-    /// What it asks.
-    pub order: Order,
+/// An order, and the worker who handed it in, as contracts see it. The log is there for proofs alone, so no value of it
+/// is made. It has no field: the proof of a function spells out the layout of each type that a call there names.
+pub struct Ask {}
+
+impl Model for Ask {
+    ghost use Rattle.fl_log.specs.Asked.{Ask as Asked, no_ask};
+
+    ghost Value = { Asked };
+
+    ghost view = { λ _. no_ask };
 }
 
 impl Entry for Ask {
@@ -31,7 +35,7 @@ pub struct AsAsk;
 
 impl<'a> Plain<Asking<'a>, Ask, u64> for AsAsk {
     ghost use Rattle.std.specs.Prelude.{None};
-    ghost use Rattle.fl_log.specs.Asks.{ask_of};
+    ghost use Rattle.fl_log.specs.Asked.{ask_of};
 
     ghost ask = { λ asking. ask_of asking.worker asking.order.now };
 

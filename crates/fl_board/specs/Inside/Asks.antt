@@ -7,8 +7,8 @@ use Rattle.fl_core.specs.Step.{replies}
 use Rattle.fl_desk.specs.Answered.{answered_by}
 use Rattle.fl_desk.specs.Legal.{step_lines}
 use Rattle.fl_history.specs.declared.history.Line.{Line}
-use Rattle.fl_log.specs.declared.ask.Ask.{Ask}
-use Rattle.fl_log.specs.Asks.{stepped}
+use Rattle.fl_log.specs.Asked.{Ask}
+use Rattle.fl_replica.specs.Asks.{stepped}
 use Rattle.fl_waiting.specs.declared.rules.Rules.{Rules}
 
 -- the lines of an ask

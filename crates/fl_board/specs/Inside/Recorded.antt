@@ -2,7 +2,7 @@
 use Rattle.std.specs.Prelude.{List, Option}
 use Rattle.fl_board.specs.Seats.{Place}
 use Rattle.fl_history.specs.declared.history.Line.{Line}
-use Rattle.fl_log.specs.declared.ask.Ask.{Ask}
+use Rattle.fl_log.specs.Asked.{Ask}
 
 -- the asks that were handed in; those that led to what readers find, or none while there are no copies; and the lines
 -- that the journal has stored

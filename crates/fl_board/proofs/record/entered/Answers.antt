@@ -1,6 +1,6 @@
 use Rattle.std.proofs.Common.{◌≡◌, ℕ, ◌++◌, ◌∷◌, [], ap, subst}
 use Rattle.fl_board.specs.Seats.{Place}
-use Rattle.fl_log.specs.Asks.{ask_of}
+use Rattle.fl_log.specs.Asked.{ask_of}
 use Rattle.fl_board.proofs.record.entered.Goals as goal
 
 pub returns-clause-added : goal.returns-clause-added

@@ -1,6 +1,7 @@
-use Rattle.std.proofs.Common.{◌≡◌, ◌∙◌, sym, subst, All, refl, inr, sum_by, List}
+use Rattle.std.proofs.Common.{◌≡◌, ◌∙◌, ap, sym, subst, All, refl, inr, sum_by, List}
 use mathlib.Core.List.{IsPrefix}
 use Rattle.fl_board.specs.Inside.Asks.{HasMostOf, history_of}
+use Rattle.fl_board.specs.Inside.Recorded.{UnderLock}
 use Rattle.fl_board.specs.Refused.{CantClose}
 use Rattle.fl_board.specs.Seats.{AreApart, Place}
 use Rattle.fl_board.proofs.Counts.{has_all}
@@ -11,29 +12,31 @@ use Rattle.fl_board.proofs.board.Board.into_journal.Goals as goal
 
 pub returns-then-not-can_close-clause-back : goal.returns-then-not-can_close-clause-back
 returns-then-not-can_close-clause-back g c =
-    inr (_, refl, subst (CantClose g.L.BoardName.rules) c.deref.ensures.value (c.if-not-can_close.ensures.cant refl))
+    inr (_, refl, subst (CantClose g.L.BoardName.rules) c.deref-2.ensures.value (c.if-not-can_close.ensures.cant refl))
 
 pub returns-clause-apart : goal.returns-clause-apart
-returns-clause-apart g c = subst AreApart c.deref.ensures.value (c.if-not-can_close.ensures.apart refl)
+returns-clause-apart g c = subst AreApart c.deref-2.ensures.value (c.if-not-can_close.ensures.apart refl)
 
 pub returns-clause-each : goal.returns-clause-each
 returns-clause-each g c =
     let ours = g.L.BoardName.rules in
-    let asks = c.into_inner-shared.result.asks in
     let seats = c.args.seats.items in
-    let most : All (λ (p : Place). HasMostOf (history_of ours asks) p) seats =
-    subst (λ (l : List Place). All (λ (p : Place). HasMostOf (history_of ours asks) p) l) c.deref.ensures.value
+    let most : All (λ (p : Place). HasMostOf (history_of ours c.deref.result.now.asks) p) seats =
+    subst (λ (l : List Place). All (λ (p : Place). HasMostOf (history_of ours c.deref.result.now.asks) p) l) c.deref-2.ensures.value
     (c.if-not-can_close.ensures.most refl) in
     let kept = g.J.Journal.lines c.into_journal.result in
     let history = c.into_journal.ensures in
+    let lines : history_of ours c.deref.result.now.asks ≡ kept =
+    ap (λ (s : UnderLock). history_of ours s.asks) (c.deref.ensures ∙ sym c.into_inner.ensures) ∙ sym history.lines in
     let total : orders_asked kept ≡ sum_by (λ (p : Place). p.count) seats = history.counted ∙ c.merged-whole.ensures.amount in
-    has_all kept seats (returns-clause-apart g c) (subst (λ (l : List Line). All (λ (p : Place). HasMostOf l p) seats) (sym history.lines) most)
-    total
+    has_all kept seats (returns-clause-apart g c) (subst (λ (l : List Line). All (λ (p : Place). HasMostOf l p) seats) lines most) total
 
 pub returns-clause-stored : goal.returns-clause-stored
 returns-clause-stored g c =
-    let stored = history_of g.L.BoardName.rules c.into_inner-shared.result.stored in
+    let ours = g.L.BoardName.rules in
+    let stored = history_of ours c.deref.result.now.stored in
     all_of_another (λ (p : Place). p.stored) c.args.seats.items stored _
-    (subst (λ (l : List Place). All (λ (p : Place). IsPrefix p.stored stored) l) c.deref.ensures.value
+    (subst (λ (l : List Place). All (λ (p : Place). IsPrefix p.stored stored) l) c.deref-2.ensures.value
     (c.if-not-can_close.ensures.stored refl))
-    c.into_journal.ensures.stored
+    (subst (λ (s : UnderLock). IsPrefix (history_of ours s.stored) (g.J.Journal.stored c.into_journal.result))
+    (c.into_inner.ensures ∙ sym c.deref.ensures) c.into_journal.ensures.stored)

@@ -2,7 +2,7 @@ use Rattle.std.proofs.Common.{◌≡◌, [], ◌∙◌, ap, sym}
 use Rattle.fl_board.specs.Inside.Asks.{history_of}
 use Rattle.fl_core.specs.State.{opening, snapshot_of}
 use Rattle.fl_desk.specs.Legal.{orders_asked}
-use Rattle.fl_log.specs.Asks.{Publication, present_after}
+use Rattle.fl_replica.specs.Asks.{Publication, present_after}
 use Rattle.fl_board.proofs.record.Record.over.Goals as goal
 
 pub invariant_of-result : goal.invariant_of-result

@@ -9,9 +9,9 @@ use Rattle.fl_order.specs.declared.told.Answer.{Answer}
 use Rattle.fl_order.specs.declared.told.Told.{Told}
 use Rattle.fl_desk.specs.Legal.{step_lines, orders_asked}
 use Rattle.fl_desk.specs.Replay.{state_after}
-use Rattle.fl_log.specs.declared.ask.Ask.{Ask}
+use Rattle.fl_log.specs.Asked.{Ask}
 use Rattle.fl_waiting.specs.declared.rules.Rules.{Rules}
-use Rattle.fl_log.specs.Asks.{present_after}
+use Rattle.fl_replica.specs.Asks.{present_after}
 use Rattle.fl_board.specs.Inside.Asks.{HasMostOf, history_of}
 use Rattle.fl_board.specs.Seats.{Place}
 use Rattle.fl_board.proofs.Boards.{step_asks_one_order}

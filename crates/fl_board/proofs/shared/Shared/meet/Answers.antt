@@ -2,7 +2,7 @@ use Rattle.std.proofs.Common.{◌∙◌, ap, refl, subst, sym}
 use Rattle.fl_board.proofs.Refusing.{short_of_first, short_of_second}
 use Rattle.fl_board.specs.Inside.Asks.{HasMostOf, history_of}
 use Rattle.fl_board.specs.Seats.{Place}
-use Rattle.fl_log.specs.declared.ask.Ask.{Ask}
+use Rattle.fl_log.specs.Asked.{Ask}
 use Rattle.std.specs.Prelude.{List}
 use Rattle.fl_board.proofs.shared.Shared.meet.Goals.{then-not-begins-via-then-not-begins, then-not-begins-via-else-not-begins+then-not-begins-2}
 use Rattle.fl_board.proofs.shared.Shared.meet.Goals as goal

@@ -1,15 +1,11 @@
 -- What is there after asks, one after another, and an order that leads on.
-use Rattle.std.specs.Prelude.{ℕ, List, Option}
+use Rattle.std.specs.Prelude.{List, Option}
 use Rattle.std.specs.List.{fold}
 use Rattle.fl_core.specs.State.{Snapshot, opening, snapshot_of}
 use Rattle.fl_core.specs.Step.{next}
-use Rattle.fl_log.specs.declared.ask.Ask.{Ask}
+use Rattle.fl_log.specs.Asked.{Ask}
 use Rattle.fl_order.specs.declared.order.Order.{Order}
 use Rattle.fl_waiting.specs.declared.rules.Rules.{Rules}
-
--- this order, handed in by this worker
-abbrev pub ask_of : ℕ → Order → Ask
-ask_of worker order = record { worker = worker; order = order }
 
 -- what is there after an ask
 abbrev pub stepped : Snapshot → Ask → Snapshot

@@ -2,9 +2,9 @@
 use Rattle.std.proofs.Common.{◌≡◌, ℕ, ◌<◌, false, List, [], ◌∷◌, length, ap, ◌∙◌, arith}
 use Rattle.std.proofs.lemmas.Bool.Decides.{nat_tests}
 use Rattle.std.specs.Prelude.{cond, nat_eq}
-use Rattle.fl_log.specs.Asks.{Extension}
-use Rattle.fl_log.specs.Inside.Updates.{extended}
-use Rattle.fl_log.specs.declared.ask.Ask.{Ask}
+use Rattle.fl_replica.specs.Asks.{Extension}
+use Rattle.fl_replica.specs.Inside.Updates.{extended}
+use Rattle.fl_log.specs.Asked.{Ask}
 
 some_is_not_none : (n : ℕ) → 0 < n → nat_eq n 0 ≡ false
 some_is_not_none n some = grind (arith, nat_tests)

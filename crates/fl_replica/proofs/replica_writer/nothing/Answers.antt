@@ -1,11 +1,11 @@
 use Rattle.std.proofs.Common.{◌≡◌, [], refl, sym, ap, ◌∙◌}
-use Rattle.fl_log.specs.Asks.{present_after}
+use Rattle.fl_replica.specs.Asks.{present_after}
 use Rattle.fl_core.specs.Settling.{settled_within}
 use Rattle.fl_core.specs.Step.{next}
 use Rattle.fl_order.specs.declared.order.Op.TheVariants.{Getattr}
 use Rattle.fl_order.specs.declared.order.Order.{Order}
 use Rattle.fl_waiting.specs.declared.rules.Rules.{Rules}
-use Rattle.fl_log.proofs.replica_writer.nothing.Goals as goal
+use Rattle.fl_replica.proofs.replica_writer.nothing.Goals as goal
 
 abbrev getattr : Order
 getattr = record { unique = 0; node = 1; uid = 0; gid = 0; pid = 0; op = Getattr }

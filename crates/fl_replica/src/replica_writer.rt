@@ -4,16 +4,15 @@ ghost use Rattle.std.specs.Prelude.{◌≡◌, ◌<◌, ◌^◌, ◌⊎◌, ◌�
 ghost use Rattle.left_right.specs.Handles.{published, pending};
 ghost use Rattle.fl_core.specs.Replies.{own_replies};
 ghost use Rattle.fl_core.specs.Step.{next, replies};
-ghost use Rattle.fl_log.specs.Asks.{present_after};
-ghost use Rattle.fl_log.specs.Inside.Updates.{in_the_end};
+ghost use Rattle.fl_replica.specs.Asks.{present_after};
+ghost use Rattle.fl_replica.specs.Inside.Updates.{in_the_end};
 
-use crate::ask::Ask;
-use crate::beginning::Beginning;
 use crate::board_name::BoardName;
-use crate::replica::{Replica, Update};
+use crate::replica::{Replica, ReplicaReader, Update};
 use fl_core::Core;
+use fl_log::{Ask, Beginning};
 use fl_order::{Answer, Errno, NoMemory, Op, Order};
-use left_right::{Absorb, ReadHandle, WriteHandle};
+use left_right::{Absorb, WriteHandle};
 use std::alloc::{AllocError, Global};
 use std::marker::Model;
 use std::sync::Wait;
@@ -48,8 +47,8 @@ where
     Replica<L>: Absorb<Update<L>, State = Beginning<L, Ask>>,
 {
     ghost use Rattle.std.specs.Prelude.{◌≡◌, IfSome, option_map};
-    ghost use Rattle.fl_log.specs.Asks.{Publication};
-    ghost use Rattle.fl_log.specs.Inside.Updates.{in_the_end};
+    ghost use Rattle.fl_replica.specs.Asks.{Publication};
+    ghost use Rattle.fl_replica.specs.Inside.Updates.{in_the_end};
     ghost use Rattle.left_right.specs.Handles.{published, pending};
 
     ghost Value = { Publication };
@@ -100,11 +99,12 @@ impl<L: BoardName, R: Wait + Drop + Copy> ReplicaWriter<L, R> {
     }
 
     /// A reader of what is published. It is refused if memory runs out, or if each place for a reader is taken.
-    pub fn reader(&self) -> Result<ReadHandle<Replica<L>>, AllocError> {
-        match &self.writer {
-            Some(writer) => writer.handle(),
-            None => Err(AllocError),
-        }
+    pub fn reader(&self) -> Result<ReplicaReader<L>, AllocError> {
+        let Some(writer) = &self.writer else {
+            return Err(AllocError);
+        };
+        let handle = writer.handle()?;
+        Ok(ReplicaReader { handle })
     }
 
     /// Keeps an order to be published, which stands behind the asks of `before`. Those of `after` are they and the

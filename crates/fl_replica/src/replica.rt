@@ -3,13 +3,12 @@
 ghost use Rattle.std.specs.Prelude.{◌≡◌, ◌↔◌, true, Some, IfOk, IfSome, IsSome};
 ghost use Rattle.fl_core.specs.Replies.{own_replies};
 ghost use Rattle.fl_core.specs.Step.{next, replies};
-ghost use Rattle.fl_log.specs.Asks.{present_after};
+ghost use Rattle.fl_replica.specs.Asks.{present_after};
 ghost use Rattle.fl_order.specs.Order.{only_reads};
 
-use crate::ask::Ask;
-use crate::beginning::Beginning;
 use crate::board_name::BoardName;
 use fl_core::{Core, Tolds};
+use fl_log::{Ask, Beginning};
 use fl_order::{Answer, Errno, NoMemory, Order};
 use left_right::{Absorb, ReadHandle};
 use std::alloc::{AllocError, Global};
@@ -17,7 +16,6 @@ use std::marker::Model;
 
 /// An order to be published, with what it was told itself if nobody else was told anything, and with the beginnings of
 /// the log before it and with it.
-#[derive(Drop)]
 pub struct Update<L: BoardName> {
     order: Order,
     alone: Option<Option<Result<Answer, Errno>>>,
@@ -29,7 +27,7 @@ impl<L: BoardName> Model for Update<L> {
     ghost use Rattle.std.specs.Prelude.{◌≡◌, IfSome};
     ghost use Rattle.fl_core.specs.Replies.{own_replies};
     ghost use Rattle.fl_core.specs.Step.{next, replies};
-    ghost use Rattle.fl_log.specs.Asks.{Extension, present_after};
+    ghost use Rattle.fl_replica.specs.Asks.{Extension, present_after};
 
     ghost Value = { Extension };
 
@@ -37,6 +35,18 @@ impl<L: BoardName> Model for Update<L> {
 
     ghost invariant = { λ u. (present_after L.rules u.after ≡ next (present_after L.rules u.before) u.order)
         × IfSome u.alone (λ reply. replies (present_after L.rules u.before) u.order ≡ own_replies u.order reply) };
+}
+
+impl<L: BoardName> Drop for Update<L> {
+    // One call for an owner, and not a step for each part.
+    fn drop(self) {
+        let Update {
+            order: _,
+            alone: _,
+            before: _before,
+            after: _after,
+        } = self;
+    }
 }
 
 impl<L: BoardName> Update<L> {
@@ -62,7 +72,6 @@ impl<L: BoardName> Update<L> {
 }
 
 /// A copy of the directory. Contracts see it as the asks that led to it.
-#[derive(Drop)]
 pub struct Replica<L: BoardName> {
     core: Core,
     asks: Beginning<L, Ask>,
@@ -73,14 +82,25 @@ pub struct Replica<L: BoardName> {
 impl<L: BoardName> Model for Replica<L> {
     ghost use Rattle.std.specs.Prelude.{◌≡◌, List};
     ghost use Rattle.fl_core.specs.Tolds.{HasRoom};
-    ghost use Rattle.fl_log.specs.declared.ask.Ask.{Ask};
-    ghost use Rattle.fl_log.specs.Asks.{present_after};
+    ghost use Rattle.fl_log.specs.Asked.{Ask};
+    ghost use Rattle.fl_replica.specs.Asks.{present_after};
 
     ghost Value = { List Ask };
 
     ghost view = { λ p. p.asks };
 
     ghost invariant = { λ p. (p.core ≡ present_after L.rules p.asks) × HasRoom p.core.rules p.tolds };
+}
+
+impl<L: BoardName> Drop for Replica<L> {
+    // One call for an owner, and not a step for each part.
+    fn drop(self) {
+        let Replica {
+            core: _core,
+            asks: _asks,
+            tolds: _tolds,
+        } = self;
+    }
 }
 
 impl<L: BoardName> Replica<L> {
@@ -120,7 +140,7 @@ impl<L: BoardName> Replica<L> {
 }
 
 impl<L: BoardName> Absorb<Update<L>> for Replica<L> {
-    ghost use Rattle.fl_log.specs.Inside.Updates.{extended};
+    ghost use Rattle.fl_replica.specs.Inside.Updates.{extended};
 
     type State = Beginning<L, Ask>;
 
@@ -146,17 +166,29 @@ impl<L: BoardName> Absorb<Update<L>> for Replica<L> {
     }
 }
 
+/// What a worker reads the copy that is published through.
+pub struct ReplicaReader<L: BoardName> {
+    pub(crate) handle: ReadHandle<Replica<L>>,
+}
+
+impl<L: BoardName> Drop for ReplicaReader<L> {
+    // One call for an owner, and not a step for each part.
+    fn drop(self) {
+        let ReplicaReader { handle: _handle } = self;
+    }
+}
+
 /// What an order that only reads is answered by what is published, and the asks that led to that. None if no copy
 /// could be entered.
 pub fn look_at<L: BoardName>(
-    reader: &mut ReadHandle<Replica<L>>,
+    reader: &mut ReplicaReader<L>,
     order: &Order,
 ) -> Option<(Beginning<L, Ask>, Result<Answer, Errno>)>
     requires { only_reads order.now.op ≡ true }
     ensures { IfSome result (λ shown.
         replies (present_after L.rules shown.0) order.now ≡ own_replies order.now (Some shown.1)) }
 {
-    let guard = reader.enter()?;
+    let guard = reader.handle.enter()?;
     let replica: &Replica<L> = &guard;
     let asks = replica.asks();
     let Some(answer) = replica.answer(order) else {

@@ -4,7 +4,7 @@ ghost use Rattle.std.specs.Prelude.{ℕ};
 ghost use Rattle.fl_waiting.specs.declared.rules.Rules.{Rules};
 ghost use Rattle.fl_waiting.specs.Waiting.{standard};
 
-use crate::log::LogName;
+use fl_log::LogName;
 use std::marker::Brand;
 
 /// The name of one board in contracts: a ledger with a part for each of its workers, the log of its orders, and by

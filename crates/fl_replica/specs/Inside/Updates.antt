@@ -1,8 +1,8 @@
 -- What is published.
 use Rattle.std.specs.Prelude.{cond, nat_eq, List, length}
 use Rattle.std.specs.List.{fold}
-use Rattle.fl_log.specs.declared.ask.Ask.{Ask}
-use Rattle.fl_log.specs.Asks.{Extension}
+use Rattle.fl_log.specs.Asked.{Ask}
+use Rattle.fl_replica.specs.Asks.{Extension}
 
 -- a copy of the asks before it takes the order; any other stays
 abbrev pub extended : List Ask → Extension → List Ask
