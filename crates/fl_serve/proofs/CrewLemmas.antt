@@ -5,12 +5,13 @@ use Rattle.std.proofs.lemmas.List.Elements.{All-head, All-push, All-tail}
 use Rattle.fl_board.specs.Seats.{Place, front_of}
 use Rattle.fl_desk.specs.Answered.{answered_by}
 use Rattle.fl_log.specs.Appended.{Appended}
-use Rattle.fl_serve.specs.Inside.Working.{IsIdle, IsUnused}
+use Rattle.fl_pool.specs.Working.{IsIdle}
+use Rattle.fl_serve.specs.Inside.Seated.{IsUnused, by_place}
 use Rattle.fl_workers.specs.declared.entry.ReplyEntry.{ReplyEntry}
 
 -- nothing was done at a fresh seat, with a fresh appender in its worker's name
 pub idle_at : (place : Place) (sent : Appended ReplyEntry) → IsUnused place
-    → sent ≡ record { author = place.worker; count = 0; upto = [] } → IsIdle place sent
+    → sent ≡ record { author = place.worker; count = 0; upto = [] } → IsIdle by_place place sent
 idle_at place sent fresh is = λ i. record {
   worker = place.worker;
   count = fresh.0 i;

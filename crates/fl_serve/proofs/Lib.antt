@@ -1,6 +1,6 @@
 pub mod CrewLemmas
 pub mod GrowingLemmas
 pub mod PartLemmas
-pub mod RunningLemmas
+pub mod RestLemmas
+pub mod RunLemmas
 pub mod ServingLemmas
-pub mod WorkingLemmas

@@ -15,14 +15,21 @@ use Rattle.fl_history.specs.declared.history.Line.{Line}
 use Rattle.fl_intake.specs.Often.{Weight}
 use Rattle.fl_log.specs.Appended.{Appended, HasAll as HasAllEntries}
 use Rattle.fl_log.specs.Growing.{Grows}
-use Rattle.fl_serve.specs.Inside.Working.{IsDone, Work}
+use Rattle.fl_pool.specs.Working.{IsDone as IsDoneAt, Work as WorkAt, some_is}
+use Rattle.fl_serve.specs.Inside.Seated.{by_place}
 use Rattle.fl_serve.proofs.GrowingLemmas.{all_grown, by_begins, just_these}
-use Rattle.fl_serve.specs.Serve.{IsAnswered, IsKeptIn, Part, orders_of, some_is}
+use Rattle.fl_serve.specs.Serve.{IsAnswered, IsKeptIn, Part, orders_of}
 use Rattle.fl_waiting.specs.declared.rules.Rules.{Rules}
 use Rattle.fl_workers.specs.Sent.{entries_of}
 use Rattle.fl_workers.specs.Worked.{AreInTurn, Outcome, Shows, answers, entry_for, handed, looked, order_of, refused}
 use Rattle.fl_workers.specs.Worked.{some_refused}
 use Rattle.fl_workers.specs.declared.entry.ReplyEntry.{ReplyEntry}
+
+abbrev pub Work : Type 0
+Work = WorkAt Place
+
+abbrev pub IsDone : Rules → Work → Type 0
+IsDone rules work = IsDoneAt by_place (IsAnsweredAfter rules) work
 
 abbrev pub author_of : ReplyEntry → ℕ
 author_of e = e.author
@@ -52,7 +59,7 @@ front_begins history place has =
 module _ (rules : Rules) where
   -- a worker, with what became of its orders
   abbrev part_of : (work : Work) → IsDone rules work → Part
-  part_of work done = record { worker = work.place.worker; outcomes = done.outcomes }
+  part_of work done = record { worker = work.seat.worker; outcomes = done.outcomes }
 
   abbrev pub parts_of : (works : List Work) → All (IsDone rules) works → List Part
   parts_of [] each = []
@@ -60,9 +67,9 @@ module _ (rules : Rules) where
       part_of w (All-head (IsDone rules) w works each) ∷ parts_of works (All-tail (IsDone rules) w works each)
 
   pub same_workers : (works : List Work) (each : All (IsDone rules) works)
-      → map (λ (p : Part). p.worker) (parts_of works each) ≡ map (λ (p : Place). p.worker) (map (λ (w : Work). w.place) works)
+      → map (λ (p : Part). p.worker) (parts_of works each) ≡ map (λ (p : Place). p.worker) (map (λ (w : Work). w.seat) works)
   same_workers [] each = refl
-  same_workers (w ∷ works) each = ap (λ l. w.place.worker ∷ l) (same_workers works (All-tail (IsDone rules) w works each))
+  same_workers (w ∷ works) each = ap (λ l. w.seat.worker ∷ l) (same_workers works (All-tail (IsDone rules) w works each))
 
   -- they took the orders that were worked on
   pub same_orders : (weight : Weight) (works : List Work) (each : All (IsDone rules) works)
@@ -80,55 +87,55 @@ module _ (rules : Rules) where
       )
 
   -- the history answers those that were handed in, and has all that was shown
-  answered_one : (history : List Line) (w : Work) (done : IsDone rules w) → HasAllOf history w.place
+  answered_one : (history : List Line) (w : Work) (done : IsDone rules w) → HasAllOf history w.seat
       → IsAnswered rules history (part_of w done)
   answered_one history w done has = record {
-    handed = just_these (answered_by w.place.worker w.place.handed) (answered_by w.place.worker history) w.place.count
+    handed = just_these (answered_by w.seat.worker w.seat.handed) (answered_by w.seat.worker history) w.seat.count
         (answers done.outcomes) done.handed has.answered has.count;
-    shown = turn_to (IsAnsweredAfter rules) w.place.worker [] (front_of w.place) history [] done.outcomes
-        (front_begins history w.place has) (done.shown [] (sublist.refl []));
+    shown = turn_to (IsAnsweredAfter rules) w.seat.worker [] (front_of w.seat) history [] done.outcomes
+        (front_begins history w.seat has) (done.shown [] (sublist.refl []));
   }
 
   pub answered_each : (history : List Line) (works : List Work) (each : All (IsDone rules) works)
-      → All (HasAllOf history) (map (λ (w : Work). w.place) works)
+      → All (HasAllOf history) (map (λ (w : Work). w.seat) works)
       → All (IsAnswered rules history) (parts_of works each)
   answered_each history [] each has = All-nil (IsAnswered rules history)
   answered_each history (w ∷ works) each has =
       let P = HasAllOf history in
-      let places = map (λ (w : Work). w.place) works in
+      let places = map (λ (w : Work). w.seat) works in
       All-cons (IsAnswered rules history) _ _
-      (answered_one history w (All-head (IsDone rules) w works each) (All-head P w.place places has))
-      (answered_each history works (All-tail (IsDone rules) w works each) (All-tail P w.place places has))
+      (answered_one history w (All-head (IsDone rules) w works each) (All-head P w.seat places has))
+      (answered_each history works (All-tail (IsDone rules) w works each) (All-tail P w.seat places has))
 
   -- what is stored has those that were handed in
-  kept_one : (history stored : List Line) (w : Work) (done : IsDone rules w) → HasAllOf history w.place
-      → IsPrefix w.place.stored stored → IsKeptIn stored (part_of w done)
+  kept_one : (history stored : List Line) (w : Work) (done : IsDone rules w) → HasAllOf history w.seat
+      → IsPrefix w.seat.stored stored → IsKeptIn stored (part_of w done)
   kept_one history stored w done has begins = record {
-    front = w.place.stored;
+    front = w.seat.stored;
     begins = begins;
-    all = done.stored refl ∙ all_grown (answered_by w.place.worker w.place.handed) (answered_by w.place.worker history)
-        w.place.count (answers done.outcomes) done.handed has.answered has.count;
+    all = done.stored refl ∙ all_grown (answered_by w.seat.worker w.seat.handed) (answered_by w.seat.worker history)
+        w.seat.count (answers done.outcomes) done.handed has.answered has.count;
   }
 
   pub kept_each : (history stored : List Line) (works : List Work) (each : All (IsDone rules) works)
-      → All (HasAllOf history) (map (λ (w : Work). w.place) works)
-      → All (λ (p : Place). IsPrefix p.stored stored) (map (λ (w : Work). w.place) works)
+      → All (HasAllOf history) (map (λ (w : Work). w.seat) works)
+      → All (λ (p : Place). IsPrefix p.stored stored) (map (λ (w : Work). w.seat) works)
       → All (IsKeptIn stored) (parts_of works each)
   kept_each history stored [] each has begin = All-nil (IsKeptIn stored)
   kept_each history stored (w ∷ works) each has begin =
       let P = HasAllOf history in
       let Q : Place → Type 0 = λ p. IsPrefix p.stored stored in
-      let places = map (λ (w : Work). w.place) works in
+      let places = map (λ (w : Work). w.seat) works in
       All-cons (IsKeptIn stored) _ _
-      (kept_one history stored w (All-head (IsDone rules) w works each) (All-head P w.place places has)
-      (All-head Q w.place places begin))
-      (kept_each history stored works (All-tail (IsDone rules) w works each) (All-tail P w.place places has)
-      (All-tail Q w.place places begin))
+      (kept_one history stored w (All-head (IsDone rules) w works each) (All-head P w.seat places has)
+      (All-head Q w.seat places begin))
+      (kept_each history stored works (All-tail (IsDone rules) w works each) (All-tail P w.seat places has)
+      (All-tail Q w.seat places begin))
 
   -- they handed in as many as their places count
   pub as_many_handed : (works : List Work) (each : All (IsDone rules) works)
       → sum_by (λ (p : Part). length (answers p.outcomes)) (parts_of works each)
-      ≡ sum_by (λ (p : Place). p.count) (map (λ (w : Work). w.place) works)
+      ≡ sum_by (λ (p : Place). p.count) (map (λ (w : Work). w.seat) works)
   as_many_handed [] each = refl
   as_many_handed (w ∷ works) each =
       let done = All-head (IsDone rules) w works each in
@@ -136,7 +143,7 @@ module _ (rules : Rules) where
       omega (
         arith,
         sum_by-cons (λ (p : Part). length (answers p.outcomes)) (part_of w done) (parts_of works others),
-        sum_by-cons (λ (p : Place). p.count) w.place (map (λ (w : Work). w.place) works),
+        sum_by-cons (λ (p : Place). p.count) w.seat (map (λ (w : Work). w.seat) works),
         done.handed.counted,
         as_many_handed works others,
       )
@@ -155,10 +162,10 @@ module _ (rules : Rules) where
   both_false false b e = (refl, e)
 
   gave_one : (log : List ReplyEntry) (w : Work) (done : IsDone rules w) → w.lost ≡ false → HasAllEntries author_of log w.sent
-      → (entries_of w.place.worker log ≡ map (entry_for w.place.worker) done.outcomes)
+      → (entries_of w.seat.worker log ≡ map (entry_for w.seat.worker) done.outcomes)
       × (w.sent.count ≡ length done.outcomes)
   gave_one log w done none has =
-      let worker = w.place.worker in
+      let worker = w.seat.worker in
       let grown = subst (Grows [] (entries_of worker w.sent.upto) 0 w.sent.count) (done.sent.all none) done.sent.grown in
       let count : length (entries_of worker log) ≡ w.sent.count = subst (λ n. length (entries_of n log) ≡ w.sent.count) done.sent.author has.count in (
         just_these (entries_of worker w.sent.upto) (entries_of worker log) w.sent.count (map (entry_for worker) done.outcomes)

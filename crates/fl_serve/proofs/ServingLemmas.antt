@@ -18,7 +18,9 @@ use Rattle.fl_history.specs.declared.history.Line.{Line}
 use Rattle.fl_intake.specs.Often.{Weight}
 use Rattle.fl_log.specs.Appended.{Appended, HasAll as HasAllEntries, IsAppended}
 use Rattle.fl_log.specs.Growing.{Grows}
-use Rattle.fl_serve.specs.Inside.Working.{HaveDone}
+use Rattle.fl_desk.specs.Answered.{IsAnsweredAfter}
+use Rattle.fl_pool.specs.Working.{HaveDone}
+use Rattle.fl_serve.specs.Inside.Seated.{by_place}
 use Rattle.fl_serve.proofs.GrowingLemmas.{appended_more, by_begins, just_these, then_more}
 use Rattle.fl_serve.proofs.PartLemmas.{answered_each, as_many_handed, author_of, gave_each, kept_each, parts_of, same_orders}
 use Rattle.fl_serve.proofs.PartLemmas.{same_refused, same_workers}
@@ -83,7 +85,7 @@ last_is_left false messages goodbye last none = ap last_words (none refl)
 pub all_given : (rules : Rules) (workers : ℕ) (it : Reception) (start : Option (List ℕ)) (out : Outgoing)
     (sents : List (Appended ReplyEntry)) (places : List Place) (orders : Weight → ℕ) (any lost whole : Bool)
     → (received : HasReceived it) → it.sent ≡ record { author = workers; count = 0; upto = [] }
-    → (did : HaveDone rules orders places sents any lost)
+    → (did : HaveDone by_place (IsAnsweredAfter rules) orders places sents any lost)
     → (said : HasSaidGoodbye start out sents it.sent_now it.goodbye whole) → it.lost ≡ false → lost ≡ false
     → whole ≡ true → AreAllGiven workers received.messages (parts_of rules did.works did.each) said.log
 all_given rules workers it start out sents places orders any lost whole received fresh did said none never all =
@@ -141,7 +143,7 @@ all_done : (rules : Rules) (workers : ℕ) (messages : List (List ℕ)) (put : O
     (places : List Place) (orders : Weight → ℕ) (any lost : Bool) (told : Option Fault) (stored : List Line)
     (done : Done) → put ≡ said_in messages → ((weight : Weight) → sum_by weight put ≡ orders weight)
     → map (λ (p : Place). p.worker) places ≡ range_with_len 0 workers
-    → (did : HaveDone rules orders places sents any lost) → HasAll places any told stored done
+    → (did : HaveDone by_place (IsAnsweredAfter rules) orders places sents any lost) → HasAll places any told stored done
     → AreDone workers rules messages stored (parts_of rules did.works did.each) done
 all_done rules workers messages put sents places orders any lost told stored done said is whose did all = record {
   whose = same_workers rules did.works did.each ∙ ap (map (λ (p : Place). p.worker)) did.at ∙ whose;
@@ -241,7 +243,7 @@ pub served_by : (rules : Rules) (workers : ℕ) (it : Reception) (start held : O
     (sents : List (Appended ReplyEntry)) (places : List Place) (orders : Weight → ℕ) (any lost whole : Bool)
     (told : Option Fault) (stored : List Line) (done : Done)
     → HasReceived it → it.sent ≡ record { author = workers; count = 0; upto = [] }
-    → HaveDone rules orders places sents any lost
+    → HaveDone by_place (IsAnsweredAfter rules) orders places sents any lost
     → HasSaidGoodbye start (record { held = held; waiting = []; broken = broken }) sents it.sent_now it.goodbye whole
     → ((weight : Weight) → sum_by weight it.orders ≡ orders weight)
     → map (λ (p : Place). p.worker) places ≡ range_with_len 0 workers

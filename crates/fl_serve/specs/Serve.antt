@@ -1,6 +1,6 @@
 -- What a session with workers did.
 use Rattle.std.specs.Prelude.{◌≡◌, ℕ, ◌+◌, ◌≤◌, ◌⊎◌, Bool, true, false, List, [], ◌∷◌, ◌++◌, All, length, None}
-use Rattle.std.specs.Prelude.{◌||◌, IfSome, IsSome, Some, flat_map, map, sum_by}
+use Rattle.std.specs.Prelude.{IfSome, IsSome, Some, flat_map, map, sum_by}
 use Rattle.std.specs.Io.KnownBytes.{Keeps}
 use Rattle.std.specs.List.{range_with_len}
 use mathlib.Core.List.{IsPrefix}
@@ -9,6 +9,7 @@ use Rattle.fl_desk.specs.Asked.{Orders}
 use Rattle.fl_desk.specs.Legal.{IsLegal, orders_asked}
 use Rattle.fl_history.specs.declared.history.Line.{Line}
 use Rattle.fl_intake.specs.Often.{AreAsOften}
+use Rattle.fl_pool.specs.Working.{some_is}
 use Rattle.fl_session.specs.Recorded.{done_of, journal_lines}
 use Rattle.fl_session.specs.declared.done.Done.{Done}
 use Rattle.fl_session.specs.declared.recorded.Recorded.{Recorded}
@@ -46,11 +47,6 @@ pub record IsKeptIn (stored : List Line) (part : Part) : Type 0 where
   pub front : List Line
   pub begins : IsPrefix front stored
   pub all : answered_by part.worker front ≡ answers part.outcomes
-
--- one of these is so
-abbrev pub some_is : List Bool → Bool
-some_is [] = false
-some_is (b ∷ bs) = b || some_is bs
 
 -- The orders of the messages are those that the workers took, each as often. Each of these was handed in, looked for or
 -- refused. The history has no order but those that were handed in, and these are stored with their replies. `refused`

@@ -12,16 +12,18 @@ ghost use Rattle.fl_transport.specs.Ending.{IsRead};
 ghost use Rattle.fl_workers.specs.Received.{answer_by};
 ghost use Rattle.fl_workers.specs.Room.{HasRoomFor};
 ghost use Rattle.fl_workers.specs.Sent.{spelled};
-ghost use Rattle.fl_serve.specs.Inside.Running.{HasRun};
+ghost use Rattle.fl_pool.specs.Running.{HasRun};
+ghost use Rattle.fl_desk.specs.Answered.{IsAnsweredAfter};
+ghost use Rattle.fl_serve.specs.Inside.Seated.{by_place};
 ghost use Rattle.fl_serve.specs.Inside.Closing.{HasAll, HasGrown, HasSaidGoodbye, last_words};
 ghost use Rattle.fl_session.specs.Recorded.{done_of, journal_lines};
 ghost use Rattle.fl_serve.specs.Serve.{IsServedBy};
 
-use crate::crew::Back;
-use crate::pool::{Ran, WorkerPool, handed_in};
+use crate::crew::handed_in;
 use fl_board::{Board, BoardName, Seat};
 use fl_history::Journal;
 use fl_log::Appender;
+use fl_pool::{Back, Ran, WorkerPool};
 use fl_session::Recorded;
 use fl_transport::{Fault, Response};
 use fl_workers::{Gate, Received, ReplyEntry, ReplyRoom, SharedSender, WriterName};
@@ -57,6 +59,7 @@ pub(crate) fn unstarted<'w, N: WriterName, W: Write, J: Journal>(
 
 /// Hands in what no worker took, says goodbye, and closes the board of a session whose workers came back.
 pub(crate) fn finish<
+    'a,
     'w,
     L: BoardName,
     N: WriterName,
@@ -66,8 +69,8 @@ pub(crate) fn finish<
     J: Journal + Drop,
 >(
     alloc: Global,
-    pool: WorkerPool<'_, 'w, L, N, R, W, G, J>,
-    ran: Ran<L, N>,
+    pool: WorkerPool<'a, 'w, Board<L, &'a R, J>, N, R, W, G>,
+    ran: Ran<Board<L, &'a R, J>, N>,
     replies: ReplyRoom,
 ) -> (Recorded<J>, &'w mut W)
     requires parts { (L.workers ≡ L.parts) × (ran.received.put.takers + 1 ≡ N.parts) }
@@ -82,7 +85,7 @@ pub(crate) fn finish<
     ensures writer { result.1.ghost_name ≡ N.writer }
     ensures legal { IfSome result.0.journal (λ journal. IsLegal L.rules (J.lines journal)) }
     ensures served { (put : PutSide) (left left_now : Option (List ℕ))
-        → HasRun L.rules pool.entry.intake put (range_with_len 0 ran.received.put.takers) left left_now
+        → HasRun by_place (IsAnsweredAfter L.rules) pool.entry.intake put (range_with_len 0 ran.received.put.takers) left left_now
         (unused ran.received.put.takers) ran
         → IsServedBy ran.received.put.takers L.rules (record {
           left = left;
@@ -97,7 +100,7 @@ pub(crate) fn finish<
     let WorkerPool {
         rt,
         gate,
-        board,
+        counter: board,
         intake,
         sender,
         ..

@@ -13,7 +13,6 @@
 
 mod crew;
 mod finishing;
-mod pool;
 mod serving;
 mod stock;
 

@@ -5,24 +5,25 @@ ghost use Rattle.std.specs.Io.KnownBytes.{Keeps};
 ghost use Rattle.std.specs.List.{range_with_len};
 ghost use Rattle.fl_desk.specs.Legal.{IsLegal, LeavesLawful};
 ghost use Rattle.fl_log.specs.Appended.{unused};
-ghost use Rattle.fl_serve.specs.Inside.Running.{CanRun};
-ghost use Rattle.fl_serve.specs.Inside.Working.{IsFresh, IsIdle};
+ghost use Rattle.fl_pool.specs.Running.{CanRun};
+ghost use Rattle.fl_pool.specs.Working.{IsFresh, IsIdle};
+ghost use Rattle.fl_serve.specs.Inside.Seated.{by_place};
 ghost use Rattle.fl_serve.specs.Serve.{IsRecordedBy, IsServedBy};
 ghost use Rattle.fl_workers.specs.Room.{HasBatchFor, HasRoomFor};
 
-use crate::crew::Crew;
+use crate::crew::manned;
 use crate::finishing::{finish, unstarted};
-use crate::pool::WorkerPool;
 use crate::stock::{Stock, opened};
-use fl_board::{BoardName, OpenFault};
+use fl_board::{Board, BoardName, OpenFault};
 use fl_core::Rules;
 use fl_desk::laws::a_legal_history_goes_on_by_orders;
 use fl_history::{Journal, Lines};
 use fl_intake::PutEnd;
 use fl_log::{Appender, Ask, FreshLog};
+use fl_pool::{Crew, WorkerPool};
 use fl_session::{Done, Recorded};
 use fl_transport::{Fault, Inbox};
-use fl_workers::{Gate, ReplyEntry, ReplyRoom, SharedSender, WriterName};
+use fl_workers::{Counter, Gate, ReplyEntry, ReplyRoom, SharedSender, WriterName};
 use std::alloc::Global;
 use std::io::{Read, Write};
 use std::marker::Brand;
@@ -207,14 +208,14 @@ fn run_at<
         crew,
     } = stock;
     let (sender, mut rest) = SharedSender::<'w, W, N>::new(sending, given, replies, w);
-    let crew = crew.at(&intake, seats, ends, rooms, &sender, &mut rest);
+    let crew = manned(crew, &intake, seats, ends, rooms, &sender, &mut rest);
     let own = sender.appender(&mut rest, staff.workers);
     let pool = WorkerPool {
         rt,
         gate,
         stack: staff.stack,
         inline: staff.inline,
-        board,
+        counter: board,
         intake,
         sender: Mutex::new(sender),
     };
@@ -223,6 +224,7 @@ fn run_at<
 
 // Runs the workers of a session, and ends it once they came back.
 fn run_pool<
+    'a,
     'w,
     L: BoardName + Send + Sync,
     N: WriterName + Send + Sync,
@@ -233,18 +235,18 @@ fn run_pool<
     J: Journal + Send + Drop,
 >(
     alloc: Global,
-    pool: WorkerPool<'_, 'w, L, N, R, W, G, J>,
+    pool: WorkerPool<'a, 'w, Board<L, &'a R, J>, N, R, W, G>,
     r: &mut I,
     inbox: Inbox,
     put: PutEnd,
-    crew: Crew<L, N>,
+    crew: Crew<Board<L, &'a R, J>, N>,
     own: Appender<N, ReplyEntry>,
     left: ReplyRoom,
 ) -> (Recorded<J>, &'w mut W)
     requires parts { (L.workers ≡ L.parts) × (put.takers + 1 ≡ N.parts) × (0 < put.takers) }
     requires workers { map (λ worker. worker.post.seat.worker) crew.workers.items ≡ range_with_len 0 put.takers }
     requires can { CanRun pool.intake inbox put }
-    requires idle { All (λ worker. IsIdle worker.post.seat worker.post.own) crew.workers.items }
+    requires idle { All (λ worker. IsIdle by_place worker.post.seat worker.post.own) crew.workers.items }
     requires ends { All (λ worker. IsFresh pool.intake worker.end) crew.workers.items }
     requires rooms { All (λ worker. HasBatchFor (L.rules.parked + 1) worker.room) crew.workers.items }
     requires left { HasRoomFor (L.rules.parked + 1) left }
@@ -265,8 +267,8 @@ fn run_pool<
 
 // The sender of a session of which a worker couldn't be started. All else is dropped: here, and not where the session
 // is run, so that few steps have many values.
-fn only_sender<'w, L: BoardName, N: WriterName, R: Wait, W: Write, G, J: Journal + Drop>(
-    pool: WorkerPool<'_, 'w, L, N, R, W, G, J>,
+fn only_sender<'w, C: Counter + Drop, N: WriterName, R: Wait, W: Write, G>(
+    pool: WorkerPool<'_, 'w, C, N, R, W, G>,
     _left: ReplyRoom,
 ) -> SharedSender<'w, W, N> {
     let WorkerPool { sender, .. } = pool;

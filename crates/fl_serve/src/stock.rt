@@ -2,26 +2,25 @@
 
 ghost use Rattle.std.specs.Prelude.{◌≡◌, ◌≤◌, ◌<◌, ◌+◌, [], All, length, map, IfOk};
 ghost use Rattle.std.specs.List.{range_with_len};
-ghost use Rattle.fl_serve.specs.Inside.Running.{IsStocked};
-ghost use Rattle.fl_serve.specs.Inside.Working.{IsUnused};
+ghost use Rattle.fl_serve.specs.Inside.Seated.{IsStocked, IsUnused};
 ghost use Rattle.fl_workers.specs.Room.{HasBatchFor};
 
-use crate::crew::Crew;
 use fl_board::{Board, BoardName, OpenFault, Seat};
 use fl_core::Rules;
 use fl_history::Journal;
 use fl_intake::{Intake, PutEnd, TakeEnd};
 use fl_log::{Ask, FreshLog};
 use fl_order::NoMemory;
+use fl_pool::Crew;
 use fl_transport::{Inbox, ReplyBuffer};
-use fl_workers::{BatchRoom, ReplyRoom, WriterName};
+use fl_workers::{BatchRoom, Counter, ReplyRoom, WriterName};
 use std::alloc::Global;
 use std::sync::Wait;
 use std::sync::ledger::Blank;
 
 /// What a session has before its first read beside its board: its intake with all ends, and memory for what is to come.
 #[derive(Drop)]
-pub(crate) struct Stock<L: BoardName, N: WriterName> {
+pub(crate) struct Stock<C: Counter, N: WriterName> {
     /// For the replies to the orders that no worker takes.
     pub left: ReplyRoom,
     pub inbox: Inbox,
@@ -32,11 +31,14 @@ pub(crate) struct Stock<L: BoardName, N: WriterName> {
     pub ends: Vec<TakeEnd>,
     /// Room for the orders that each takes at once, and for the replies to them.
     pub rooms: Vec<BatchRoom>,
-    pub crew: Crew<L, N>,
+    pub crew: Crew<C, N>,
 }
 
-impl<L: BoardName, N: WriterName> Stock<L, N> {
-    fn new(alloc: Global, workers: u32, rules: Rules) -> Result<Stock<L, N>, NoMemory>
+impl<C: Counter, N: WriterName> Stock<C, N>
+where
+    C::Seat: Drop,
+{
+    fn new(alloc: Global, workers: u32, rules: Rules) -> Result<Stock<C, N>, NoMemory>
         requires workers { (0 < workers) × (workers ≤ 16) }
         ensures { IfOk result (IsStocked rules workers) }
     {
@@ -81,7 +83,7 @@ pub(crate) fn opened<L: BoardName, N: WriterName, R: Wait + Drop + Copy, J: Jour
     log: FreshLog<Ask>,
     workers: u32,
     rules: Rules,
-) -> Result<(Board<L, R, J>, Vec<Seat<L>>, Stock<L, N>), OpenFault>
+) -> Result<(Board<L, R, J>, Vec<Seat<L>>, Stock<Board<L, R, J>, N>), OpenFault>
     requires none { J.lines journal ≡ [] }
     requires named { (blank.name ≡ L.name) × (blank.parts ≡ L.parts) }
     requires log { log ≡ L.log }
@@ -93,6 +95,6 @@ pub(crate) fn opened<L: BoardName, N: WriterName, R: Wait + Drop + Copy, J: Jour
     ensures stock { IfOk result (λ made. IsStocked L.rules workers made.2) }
 {
     let (board, seats) = Board::<L, R, J>::over(alloc, rt, journal, blank, log, workers, rules)?;
-    let stock = Stock::<L, N>::new(alloc, workers, rules)?;
+    let stock = Stock::<Board<L, R, J>, N>::new(alloc, workers, rules)?;
     Ok((board, seats, stock))
 }

@@ -1,8 +1,10 @@
 use Rattle.std.proofs.Common.{ℕ, ◌+◌, ◌∙◌, Bool, arith, refl, sum_by, sym, subst}
 use Rattle.std.specs.Prelude.{◌||◌}
 use Rattle.fl_intake.specs.Often.{Weight}
-use Rattle.fl_serve.specs.Inside.Running.{weight_worked}
-use Rattle.fl_serve.specs.Inside.Working.{HaveDone}
+use Rattle.fl_desk.specs.Answered.{IsAnsweredAfter}
+use Rattle.fl_pool.specs.Running.{weight_worked}
+use Rattle.fl_pool.specs.Working.{HaveDone}
+use Rattle.fl_serve.specs.Inside.Seated.{by_place}
 use Rattle.fl_serve.proofs.ServingLemmas.{as_many, closed_as, never_no_reader, served_by}
 use Rattle.fl_serve.proofs.finishing.finish.Goals as goal
 
@@ -23,9 +25,9 @@ returns-clause-served g c put left left_now run =
     let before : Weight → ℕ = weight_worked run.inline back in
     let orders : Weight → ℕ = λ weight. weight_worked run.inline back weight + sum_by weight c.in-Ok.left.items in
     let did = c.handed_in-seats.ensures.did before back.failures.refused back.failures.lost run.worked.did in
-    let lost = subst (λ (b : Bool). HaveDone rules orders seats sent (back.failures.refused || more.refused) b)
+    let lost = subst (λ (b : Bool). HaveDone by_place (IsAnsweredAfter rules) orders seats sent (back.failures.refused || more.refused) b)
     (sym c.or-failures.ensures.1) did in
-    let both = subst (λ (b : Bool). HaveDone rules orders seats sent b failed.lost) (sym c.or-failures.ensures.0) lost in (
+    let both = subst (λ (b : Bool). HaveDone by_place (IsAnsweredAfter rules) orders seats sent b failed.lost) (sym c.or-failures.ensures.0) lost in (
       served_by rules c.args.ran.received.put.takers _ g.N.WriterName.start _ c.say_goodbye-writer.result.1 sent seats orders
           failed.refused failed.lost c.say_goodbye-writer.result.2 c.told-told.result _ _ run.received refl both
           c.say_goodbye-writer.ensures.given

@@ -3,7 +3,7 @@ use Rattle.std.proofs.lemmas.List.{length-map}
 use Rattle.std.proofs.lemmas.List.FromFn.{length-range_with_len}
 use Rattle.std.specs.List.{range_with_len}
 use Rattle.fl_log.specs.Appended.{Appended}
-use Rattle.fl_serve.proofs.RunningLemmas.{run_as}
+use Rattle.fl_serve.proofs.RunLemmas.{run_as}
 use Rattle.fl_serve.proofs.ServingLemmas.{all_recorded, unstarted_recorded}
 use Rattle.fl_workers.specs.declared.entry.ReplyEntry.{ReplyEntry}
 use Rattle.fl_serve.proofs.serving.run_pool.Goals as goal
@@ -31,7 +31,7 @@ returns-in-Some-clause-recorded g c =
     let run = c.in-Some.ensures in
     let takers = sym run.same.1 in
     let by : ℕ → Appended ReplyEntry = λ author. record { author = author; count = 0; upto = [] } in
-    let whole = run_as _ _ _ _ _ _ _ _ _ _ run (c.requires.workers ∙ ap (range_with_len 0) takers)
+    let whole = run_as _ _ _ _ _ _ _ _ _ _ _ run (c.requires.workers ∙ ap (range_with_len 0) takers)
     (c.requires.own ∙ ap by takers) in
     let done = c.finish.ensures in
     let served = done.served _ _ _ whole in

@@ -1,5 +1,5 @@
 use Rattle.std.proofs.Common.{subst}
-use Rattle.fl_serve.specs.Inside.Running.{IsStocked}
+use Rattle.fl_serve.specs.Inside.Seated.{IsStocked}
 use Rattle.fl_waiting.specs.declared.rules.Rules.{Rules}
 use Rattle.fl_serve.proofs.stock.opened.Goals as goal
 
