@@ -3,7 +3,7 @@
 ghost use Rattle.std.specs.Prelude.{◌≡◌, ◌≢◌, ◌↔◌, ◌≤◌, ◌<◌, Some, IfErr, IfOk, OnOk};
 ghost use Rattle.std.specs.Io.KnownBytes.{Keeps};
 ghost use Rattle.lockd.specs.Inside.{AsksFile, AsksRefusal, GoesWhere};
-ghost use Rattle.lockd_serve.specs.Ending.{Ends};
+ghost use Rattle.lockd_resume.specs.Ending.{Ends};
 
 use crate::descriptors::hold_closed_streams;
 use crate::host::Host;

@@ -1,10 +1,2 @@
 pub mod AheadLemmas
-pub mod BehindLemmas
-pub mod CutTexts
-pub mod Histories
-pub mod Listings
-pub mod Prefixes
 pub mod RecordLemmas
-pub mod Sessions
-pub mod Steps
-pub mod Stored

@@ -15,7 +15,7 @@ use Rattle.fl_transport.specs.Ending.{EndsBy}
 use Rattle.fl_transport.specs.Streams.{Streams}
 use Rattle.fl_transport.specs.declared.fault.Fault.TheVariants.{NoMemory, Unstored}
 use Rattle.fl_waiting.specs.declared.rules.Rules.{Rules}
-use Rattle.lockd_serve.specs.Ending.{has_history}
+use Rattle.lockd_resume.specs.Ending.{has_history}
 use Rattle.lockd_serve.specs.Served.{HasServed}
 
 -- the lines of a journal are legal, and no lines if there is none

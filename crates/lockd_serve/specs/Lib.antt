@@ -1,7 +1,3 @@
-pub mod Behind
 pub mod Ending
-pub mod Inside
-pub mod Resumed
-pub mod Said
 pub mod Served
 pub mod Unserved

@@ -9,10 +9,10 @@ ghost use Rattle.lockd_serve.specs.Ending.{IsOver, WentWell};
 ghost use Rattle.lockd_serve.specs.declared.options.TraceTo.{TraceTo};
 ghost use Rattle.lockd_serve.specs.Unserved.{LeavesNothing, ServesNobody};
 
-use crate::ending::end_unheard;
 use crate::options::ServeOptions;
 use crate::serving::serve_stream;
 use lockd_faults::{Noting, Status};
+use lockd_resume::end_unheard;
 use lockd_streams::{Observer, OldSocket, Patient, Spinning, connection};
 use std::alloc::Global;
 use std::fs::Files;

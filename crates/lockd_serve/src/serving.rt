@@ -6,19 +6,20 @@ ghost use Rattle.fl_session.specs.Recorded.{done_of, journal_lines};
 ghost use Rattle.fl_stream.specs.Streams.{IsBlank};
 ghost use Rattle.fl_transport.specs.declared.fault.Fault.{Fault as SessionFault};
 ghost use Rattle.lockd_faults.specs.declared.fault.CommandFault.{CommandFault};
-ghost use Rattle.lockd_serve.specs.Ending.{IsOver, WentWell, has_history};
+ghost use Rattle.lockd_resume.specs.Ending.{has_history};
+ghost use Rattle.lockd_serve.specs.Ending.{IsOver, WentWell};
 ghost use Rattle.lockd_serve.specs.Served.{HasServed};
 ghost use Rattle.lockd_serve.specs.Unserved.{LeavesNothing};
 
-use crate::ahead::{AheadLines, streamed};
-use crate::ending::{end_printed, end_session, end_streamed};
-use crate::hang_up::{HangUp, hang_up_if};
 use crate::options::{ServeOptions, TraceTo};
 use fl_core::Rules;
 use fl_history::{Journal, Lines, NoJournal};
 use fl_serve::{OpenGate, Recorded, Staff, record_session, record_with_workers};
 use fl_stream::{Streamed, TraceRoom, WhenWriterFails};
 use lockd_faults::{CommandFault, Status, end};
+use lockd_resume::{
+    AheadLines, HangUp, end_printed, end_session, end_streamed, hang_up_if, streamed,
+};
 use std::alloc::Global;
 use std::io::{Read, Write};
 use std::sync::Wait;

@@ -1,0 +1,8 @@
+pub mod BehindLemmas
+pub mod CutTexts
+pub mod Histories
+pub mod Listings
+pub mod Prefixes
+pub mod Sessions
+pub mod Steps
+pub mod Stored

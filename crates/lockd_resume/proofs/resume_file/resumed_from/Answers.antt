@@ -1,0 +1,15 @@
+use Rattle.std.proofs.Common.{rules, sym, subst}
+use Rattle.fl_judge.specs.First.{IsSoOfAll}
+use Rattle.fl_judge.specs.declared.finding.AuditFault.TheVariants.{NoMemory}
+use Rattle.lockd_resume.specs.Behind.{FileSays}
+use Rattle.lockd_resume.proofs.BehindLemmas.{unread}
+use Rattle.lockd_resume.proofs.resume_file.resumed_from.Goals as goal
+
+pub returns-in_default-clause-error : goal.returns-in_default-clause-error
+returns-in_default-clause-error g c = unread c.args.rules (g.S.Read.remaining c.args.file.now) NoMemory (λ n is. absurd (cc is))
+
+pub returns-in-Err-clause-error : goal.returns-in-Err-clause-error
+returns-in-Err-clause-error g c =
+    let left = g.S.Read.remaining c.args.file.now in
+    subst (λ fault. IsSoOfAll left (λ text. FileSays c.args.rules text fault)) (sym c.told.ensures)
+    (unread c.args.rules left c.in-Err.fault (λ n is. c.in-Err.ensures.bad n (search rules)))

@@ -1,0 +1,65 @@
+-- A server that goes on behind the lines of a trace's file.
+use Rattle.std.specs.Prelude.{ℕ, Bool, true, false, List, Option, Some, ⊤}
+use Rattle.fl_desk.specs.Legal.{IsLegal}
+use Rattle.fl_desk.specs.Verdicts.{IsBeginning, DiffersAt}
+use Rattle.fl_history.specs.declared.history.Line.{Line}
+use Rattle.fl_judge.specs.Audit.{whole_lines}
+use Rattle.fl_judge.specs.First.{AreWholeLines}
+use Rattle.fl_session.specs.Served.{IsServedBehind}
+use Rattle.fl_session.specs.declared.done.Done.{Done}
+use Rattle.fl_trace.specs.Text.{BreaksAt, LineFits}
+use Rattle.fl_transport.specs.Streams.{Streams}
+use Rattle.fl_transport.specs.declared.fault.Fault.{Fault as SessionFault}
+use Rattle.fl_waiting.specs.declared.rules.Rules.{Rules}
+use Rattle.lockd_faults.specs.declared.fault.CommandFault.{CommandFault}
+use Rattle.lockd_faults.specs.declared.fault.CommandFault.TheVariants as command
+use Rattle.lockd_resume.specs.Ending.{Ending, Ends, EndsUntraced, told_of}
+
+-- No legal history begins with the whole lines of a text, and the line of this number is the first that breaks the
+-- rules.
+pub record DiffersIn (rules : Rules) (text : List ℕ) (n : ℕ) : Type 0 where
+  pub lines : List Line
+  pub bytes : ℕ
+  pub are : AreWholeLines text lines bytes
+  pub differs : DiffersAt rules lines n
+  pub none : IsBeginning rules lines → ⊥
+
+-- what a fault says of the text of a trace's file, from which no server goes on
+abbrev pub FileSays : Rules → List ℕ → CommandFault → Type 0
+FileSays rules text (command.BadLine n) = BreaksAt LineFits (whole_lines text) n
+FileSays rules text (command.Differs n) = DiffersIn rules text n
+FileSays rules text command.NoMemory = ⊤
+FileSays rules text command.Read = ⊤
+FileSays rules text fault = ⊥
+
+-- The session's fault is told. If the file lacks lines or is gone, it is told behind it that the trace failed.
+abbrev pub EndsBehind : Option SessionFault → Bool → Ending → Type 0
+EndsBehind fault true it = Ends (told_of fault) it
+EndsBehind fault false it = EndsUntraced (told_of fault) it
+
+-- a fault for which a server doesn't go on behind a trace, and serves nobody
+abbrev pub IsBefore : CommandFault → Type 0
+IsBefore (command.BadLine n) = ⊤
+IsBefore (command.Differs n) = ⊤
+IsBefore command.NoMemory = ⊤
+IsBefore command.Read = ⊤
+IsBefore command.Trace = ⊤
+IsBefore command.Listen = ⊤
+IsBefore fault = ⊥
+
+-- a fault is told for which a server serves nobody; that nobody was served no clause sees
+pub record ServesNobodyBehind (it : Ending) : Type 0 where
+  pub fault : CommandFault
+  pub before : IsBefore fault
+  pub ends : Ends (Some fault) it
+
+-- A session went on behind some lines, all lines together are legal, and this is what the server tells of it.
+pub record ServesBehind (rules : Rules) (it : Ending) : Type 0 where
+  pub base : List Line
+  pub streams : Streams
+  pub broken : Bool
+  pub whole : Bool
+  pub done : Done
+  pub served : IsServedBehind rules base streams broken done
+  pub legal : IsLegal rules done.history
+  pub ends : EndsBehind done.fault whole it

@@ -1,0 +1,5 @@
+pub mod Behind
+pub mod Ending
+pub mod Inside
+pub mod Resumed
+pub mod Said

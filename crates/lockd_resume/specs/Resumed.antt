@@ -1,0 +1,46 @@
+-- What a session did that went on behind the lines of a trace, and what the server leaves of it.
+use Rattle.std.specs.Prelude.{◌≢◌, ◌++◌, ℕ, true, List, Option, Some, IsTrue}
+use mathlib.Core.List.{IsPrefix}
+use Rattle.fl_desk.specs.Legal.{IsLegal}
+use Rattle.fl_history.specs.declared.history.Line.{Line}
+use Rattle.fl_judge.specs.Present.{told_lines}
+use Rattle.fl_session.specs.Served.{IsAheadFrom, IsServedBehind}
+use Rattle.fl_session.specs.Session.{session_behind}
+use Rattle.fl_stream.specs.Streams.{HoldsText, IsBegun, Wrote}
+use Rattle.fl_trace.specs.Text.{text_of}
+use Rattle.fl_transport.specs.Streams.{Streams}
+use Rattle.fl_transport.specs.declared.fault.Fault.TheVariants.{NoMemory}
+use Rattle.fl_waiting.specs.declared.rules.Rules.{Rules}
+use Rattle.lockd_resume.specs.Behind.{EndsBehind}
+use Rattle.lockd_resume.specs.Ending.{Ending}
+use Rattle.lockd_resume.specs.declared.behind.ResumedRun.{ResumedRun}
+use Rattle.lockd_resume.specs.declared.point.ResumePoint.{ResumePoint}
+
+-- the lines behind which a session goes on from a point: those that it has, and the replies that they lack
+abbrev pub lines_at : ResumePoint → List Line
+lines_at point = point.resumed.past.items ++ told_lines point.resumed.missing
+
+-- A session was served behind these lines under these rules, where a message may be sent again, and all lines together
+-- are legal. The file has a prefix of their text, which may end within a line, and all of it if it is said to be whole.
+-- It has all text of the stored lines, which are the first of the lines. Whatever the client got are replies to the
+-- first of the very messages that came, whose lines are stored. `contents` is what a file says that it holds.
+pub record IsResumed {T : Type 0} (rules : Rules) (base : List Line) (contents : T → Option (List ℕ))
+    (streams : Streams) (ended : ResumedRun T) : Type 0 where
+  pub lines : List Line
+  pub stored : List Line
+  pub served : IsServedBehind rules base streams ended.broken
+      (record { history = lines; fault = ended.fault; refused = ended.refused })
+  pub legal : IsLegal rules lines
+  pub begun : IsBegun contents (contents ended.file) lines
+  pub whole : IsTrue ended.whole → Wrote contents (contents ended.file) (text_of lines)
+  pub there : HoldsText contents (contents ended.file) stored
+  pub front : IsPrefix stored lines
+  pub ahead : IsAheadFrom (session_behind rules base true) served.came streams stored
+
+-- A session went on behind these lines, and this is what the server leaves of it. All speaks of one and the same
+-- session: what was read and written, its lines, what the file has of them, its fault and what is told. It had memory.
+pub record IsOverBehind {T : Type 0} (rules : Rules) (base : List Line) (contents : T → Option (List ℕ))
+    (streams : Streams) (it : Ending) (ended : ResumedRun T) : Type 0 where
+  pub resumed : IsResumed rules base contents streams ended
+  pub able : ended.fault ≢ Some NoMemory
+  pub ends : EndsBehind ended.fault ended.whole it

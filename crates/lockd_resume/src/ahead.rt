@@ -1,0 +1,122 @@
+//! Lines that a writer has before replies leave.
+
+ghost use Rattle.std.specs.Prelude.{◌≡◌, ◌≢◌, [], IfOk};
+ghost use mathlib.Core.List.{IsPrefix};
+ghost use Rattle.fl_stream.specs.Streams.{IsAs, IsBlank};
+ghost use Rattle.fl_stream.specs.declared.manner.WhenWriterFails.TheVariants as manner;
+ghost use Rattle.fl_trace.specs.Text.{text_of};
+
+use fl_history::{Journal, Line, Past};
+use fl_order::{NoMemory, Order, Told};
+use fl_session::Recorded;
+use fl_stream::{StreamRoom, Streamed, WhenWriterFails};
+use std::alloc::Global;
+use std::io::Write;
+use std::marker::Model;
+
+/// Lines that go to a writer as their text. They are stored once it has that, and it isn't gone on without. Contracts
+/// see the stream.
+#[derive(Drop)]
+pub struct AheadLines<T: Write> {
+    stream: Streamed<T>,
+}
+
+impl<T: Write> Model for AheadLines<T> {
+    ghost use Rattle.std.specs.Prelude.{◌≢◌};
+    ghost use Rattle.fl_stream.specs.Streams.{Stream};
+    ghost use Rattle.fl_stream.specs.declared.manner.WhenWriterFails.TheVariants as manner;
+
+    ghost Value = { Stream };
+
+    ghost view = { λ a. a.stream };
+
+    ghost invariant = { λ a. a.stream.manner ≢ manner.GoOn };
+}
+
+impl<T: Write> AheadLines<T> {
+    /// No lines, before a writer that has nothing yet.
+    pub fn new(
+        alloc: Global,
+        writer: T,
+        when_full: WhenWriterFails,
+    ) -> Result<AheadLines<T>, NoMemory>
+    where
+        T: Drop,
+        requires blank { IsBlank (T.contents writer) }
+        requires ahead { when_full ≢ manner.GoOn }
+        ensures lines { IfOk result (λ made. made.lines ≡ []) }
+    {
+        Ok(AheadLines {
+            stream: Streamed::new(alloc, writer, when_full)?,
+        })
+    }
+
+    /// These lines, before a writer that has their text and nothing more.
+    pub(crate) fn behind(room: StreamRoom, writer: T, base: &Past<Line>) -> AheadLines<T>
+        requires there { IsAs (T.contents writer) (text_of base.now.items) }
+        ensures lines { result.lines ≡ base.now.items }
+        ensures room { result.room ≡ 2048 }
+    {
+        AheadLines {
+            stream: Streamed::behind(room, writer, base, WhenWriterFails::End),
+        }
+    }
+
+    /// The stream, which never goes on without its writer.
+    pub(crate) fn into_stream(self) -> Streamed<T>
+        ensures value { result ≡ self }
+        ensures front { IsPrefix self.noted self.lines }
+    {
+        let AheadLines { stream } = self;
+        let broken = stream.is_broken();
+        prove!(!broken);
+        stream
+    }
+}
+
+impl<T: Write> Journal for AheadLines<T> {
+    ghost lines = { λ a. a.lines };
+
+    ghost stored = { λ a. a.noted };
+
+    ghost room = { λ a. a.room };
+
+    #[tactic(auto, using(crate::proofs::Prefixes::of_itself))]
+    fn reserve(&mut self, count: usize) -> Result<(), NoMemory> {
+        self.stream.reserve(count)
+    }
+
+    #[tactic(auto, using(crate::proofs::Prefixes::of_itself))]
+    fn push_asked(&mut self, worker: u32, order: &Order) {
+        self.stream.push_asked(worker, order);
+    }
+
+    #[tactic(auto, using(crate::proofs::Prefixes::of_itself))]
+    fn push_told(&mut self, told: &Told) {
+        self.stream.push_told(told);
+    }
+
+    fn store_all(&mut self) -> bool {
+        self.stream.store_all()
+    }
+
+    fn store_if_due(&mut self) -> bool {
+        self.stream.store_if_due()
+    }
+}
+
+/// What was recorded of a session, with the stream itself as its journal.
+pub fn streamed<T: Write>(recorded: Recorded<AheadLines<T>>) -> Recorded<Streamed<T>>
+    ensures { result ≡ recorded }
+{
+    let Recorded {
+        journal,
+        fault,
+        refused,
+    } = recorded;
+    Recorded {
+        journal: journal.map(AheadLines::into_stream),
+        fault,
+        refused,
+    }
+}

@@ -1,0 +1,47 @@
+//! `lockd serve --resume`, as functions over a reader and writers: a session that goes on behind the lines of a trace,
+//! whose file gets the lines of an order before any of its replies leaves. And how any server ends: where its trace
+//! goes, and which faults are told.
+//!
+//! `resumed_from` reads a trace by any reader, and gives the lines behind which a server goes on. `resume_stream`
+//! serves a session behind them, over any reader and two writers, the client's and the trace's file. Its clauses speak
+//! of one and the same session: what was read and written, what the file has of its lines, the lines on `faults` and
+//! the status. A kill is a reader and writers that fail from some call on, so what they say of the end is said of each
+//! moment of a server; `laws` says what the next one reads of its file. `resume_on` does both with a file and a socket:
+//! it locks the file and cuts it off. Of the bytes of these contracts see nothing, nor a failure of a reader or a
+//! writer. They let through:
+//! - a `resumed_from` that is always refused, and what `fl_judge` lets through;
+//! - a `resume_stream` that says that the file isn't whole though it is, or writes nothing to it before a reply waits;
+//! - one that hangs up before the session, or not at all;
+//! - one that prints a fault in part, or not at all, and what `fl_session`, `fl_stream` and `lockd_streams` let
+//!   through;
+//! - a `resume_on` that serves nobody, or a client all the same, and prints any of its faults or none, hands on no
+//!   lines, or others than the file's, or writes the new ones elsewhere;
+//! - one that cuts nothing off or too much, or a file at `no memory`, or one whose lines differ or that may be no
+//!   trace; that doesn't lock its file, or only once it was read, or doesn't ask at the end whether it is there;
+//! - an `end_printed` that says wrongly that the output failed, or an `end_streamed` that the trace's writer did;
+//! - a server that tells its observer something else than what it does, or nothing, or another reason.
+//!
+//! These tests refuse most of them:
+//! - `resume_on`, its file and old sockets: `tests/serve/sessions.py`, `tests/resume/kills.py`,
+//!   `tests/resume/files.py`;
+//! - traces, and files that go or can't be written: `tests/serve/traces.py`;
+//! - `no memory`, and what the trace's file has then: `tests/serve/allocations.py`;
+//! - what an observer is told: `tests/commands/words.py`, `tests/commands/texts.py`.
+#![tactic(auto)]
+
+mod ahead;
+mod behind;
+mod ending;
+mod hang_up;
+pub mod laws;
+mod point;
+mod resume_file;
+mod resuming;
+
+pub use ahead::{AheadLines, streamed};
+pub use behind::ResumedRun;
+pub use ending::{end_printed, end_session, end_streamed, end_unheard, end_unopened};
+pub use hang_up::{HangUp, hang_up_if};
+pub use point::ResumePoint;
+pub use resume_file::{resume_on, resumed_from};
+pub use resuming::resume_stream;

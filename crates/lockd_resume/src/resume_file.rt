@@ -1,0 +1,266 @@
+//! `lockd serve --resume`: a session behind the lines of a trace's file.
+
+ghost use Rattle.std.specs.Prelude.{◌≡◌, ◌⊎◌, ◌&&◌, ◌++◌, ℕ, [], List, Option, Some, IfOk, IfErr};
+ghost use Rattle.std.specs.Path.{path_bytes};
+ghost use Rattle.fl_desk.specs.Kept.{IsKept};
+ghost use Rattle.fl_desk.specs.Verdicts.{IsBeginning};
+ghost use Rattle.fl_judge.specs.First.{AreWholeLines, IsSoOfAll};
+ghost use Rattle.fl_judge.specs.Present.{told_lines};
+ghost use Rattle.fl_transport.specs.declared.fault.Fault.{Fault as SessionFault};
+ghost use Rattle.lockd_resume.specs.Behind.{EndsBehind, FileSays, ServesBehind, ServesNobodyBehind};
+ghost use Rattle.lockd_resume.specs.Ending.{Ending, Ends};
+ghost use Rattle.lockd_resume.specs.Inside.{DiffersBy, told_of_reading};
+ghost use Rattle.lockd_resume.specs.Resumed.{lines_at};
+
+use crate::ending::{end_unheard, end_unopened};
+use crate::point::ResumePoint;
+use crate::resuming::resume_stream;
+use fl_core::Rules;
+use fl_desk::Verdict;
+use fl_judge::{AuditFault, Details, Heard, Judge, Resumed, hear_cut};
+use fl_order::NoMemory;
+use fl_session::SessionRoom;
+use fl_stream::StreamRoom;
+use lockd_faults::{CommandFault, Noting, Status, end};
+use lockd_streams::{
+    Announcing, Observer, OldSocket, Patient, Retrying, Spinning, Untraced, WhenUnwritten,
+    connection, end_without_file, is_at,
+};
+use std::alloc::Global;
+use std::fs::{File, Files, TryLockError};
+use std::io;
+use std::io::{Read, Write};
+use std::net::Net;
+use std::path::Path;
+use std::time::Clock;
+
+// How a trace begins.
+const ASK: &[u8] = b"ask ";
+
+/// `lockd serve --resume`: goes on behind the lines of a trace's file, under these rules, with one worker. It listens
+/// as `lockd serve` does, but a socket's file at the path is replaced if nobody listens at it. Nothing was read of the
+/// file, which gets what is written behind what it has, and `name` is its path. If another server has it, it isn't
+/// there any more, is no regular file, or can't be locked or cut off, the fault is `Trace`.
+///
+/// What follows the file's last newline is cut off, and the replies that its last order lacks are written to it. Then
+/// the lines of each order are written before any of its replies leaves. While a write fails, `when` says what happens,
+/// and `notices` gets a line of it. If no legal history begins with the file's lines, it stays as it is, `faults` gets
+/// `bad line` or `differs` with the line's number, and nobody is served. A text with no newline is a bad line, too, if
+/// it isn't cut off within a line of an order: the file may be no trace. A fault of the session is one line on
+/// `faults`, and behind it `trace failed` if the file lacks lines, or is gone. The observer is told what the server
+/// does, and after `cannot listen` and `cannot trace` why it serves nobody.
+pub fn resume_on<R: Net + Files + Clock, F: Write, N: Write + Drop, O: Observer>(
+    rt: &R,
+    alloc: Global,
+    path: Path<'_>,
+    rules: Rules,
+    mut file: File,
+    name: &str,
+    when: WhenUnwritten,
+    faults: &mut F,
+    notices: N,
+    observer: &mut O,
+) -> Status
+    // Some streams, and behind some lines: of the bytes of a socket and of a file contracts see nothing.
+    ensures over { let it : Ending = record {
+      status = result;
+      told = F.contents faults.old;
+      told_now = F.contents faults.new;
+    } in ServesNobodyBehind it ⊎ ServesBehind rules it }
+    ensures unnamed { path_bytes path.entry ≡ [] → ServesNobodyBehind (record {
+      status = result;
+      told = F.contents faults.old;
+      told_now = F.contents faults.new;
+    }) }
+{
+    if let Some(why) = untakable(rt, &file, name) {
+        return end_unopened(faults, observer, why);
+    }
+    let mut details = Details::new();
+    let point = match resumed_from(alloc, rules, &mut file, &mut details) {
+        Ok(point) => point,
+        Err(fault) => return end_unresumed(alloc, faults, observer, fault, &details),
+    };
+    let rest = details.bad.text();
+    if point.bytes == 0 && !may_begin_a_trace(rest) {
+        return end_unresumed(alloc, faults, observer, CommandFault::BadLine(1), &details);
+    }
+    if let Err(why) = cut_off(&file, point.bytes, rest) {
+        return end_unopened(faults, observer, Untraced::Uncut(why));
+    }
+    observer.resumed();
+    let stream = match connection(rt, alloc, path, OldSocket::Replace, observer) {
+        Ok(stream) => stream,
+        Err(why) => return end_unheard(faults, observer, why),
+    };
+    let mut r = Spinning::new(&stream, &stream);
+    let mut w = Noting::new(Patient::new(&stream, &stream));
+    let file = Retrying::new(Announcing::new(file, name, notices), rt, when);
+    let socket = Some(&stream);
+    let (status, run) = resume_stream(&mut r, &mut w, point, file, socket, faults);
+    let there = is_at(rt, Path::new(name), run.file.writer().file());
+    let status = end_at(faults, status, run.whole, there);
+    observer.ended(r.client(), w.failed());
+    if !there {
+        observer.lost();
+    }
+    status
+}
+
+// Why a server can't take a file of this name, if it can't. It is locked, if it can.
+fn untakable<R: Files>(rt: &R, file: &File, name: &str) -> Option<Untraced> {
+    match file.try_lock() {
+        Err(TryLockError::WouldBlock) => Some(Untraced::Taken),
+        Err(TryLockError::Error(why)) => Some(Untraced::Unlocked(why)),
+        Ok(()) if !is_at(rt, Path::new(name), file) => Some(Untraced::Gone),
+        Ok(()) if !is_regular(file) => Some(Untraced::Irregular),
+        Ok(()) => None,
+    }
+}
+
+// Whether it is a regular file. It isn't, if the system doesn't tell.
+fn is_regular(file: &File) -> bool {
+    match file.metadata() {
+        Ok(found) => found.is_file(),
+        Err(_) => false,
+    }
+}
+
+// Ends a server that doesn't go on from its file: tells why, and the observer more of it.
+fn end_unresumed<F: Write, O: Observer>(
+    alloc: Global,
+    faults: &mut F,
+    observer: &mut O,
+    fault: CommandFault,
+    details: &Details,
+) -> Status
+    ensures { Ends (Some fault) (record {
+      status = result;
+      told = F.contents faults.old;
+      told_now = F.contents faults.new;
+    }) }
+{
+    let status = end(faults, Err(fault));
+    observer.unresumed(alloc, status, details);
+    status
+}
+
+// Whether a text, or this front of it, may be that of a trace which is cut off within its first line.
+fn may_begin_a_trace(text: &[u8]) -> bool {
+    text.starts_with(ASK) || ASK.starts_with(text)
+}
+
+// Cuts a file off behind so many bytes, if there is a rest. So one that may only grow is taken, if its lines are whole.
+fn cut_off(file: &File, bytes: u64, rest: &[u8]) -> io::Result<()> {
+    if rest.is_empty() {
+        return Ok(());
+    }
+    file.set_len(bytes)
+}
+
+// Ends a server with this status, whose trace's file was whole or not. If it was whole, and isn't there any more, that
+// is told.
+fn end_at<F: Write>(faults: &mut F, status: Status, whole: bool, there: bool) -> Status
+    ensures { (fault : Option SessionFault) (told : Option (List ℕ))
+        → EndsBehind fault whole (record { status = status; told = told; told_now = F.contents faults.old })
+        → EndsBehind fault (whole && there) (record {
+          status = result;
+          told = told;
+          told_now = F.contents faults.new;
+        }) }
+{
+    if !whole {
+        return status;
+    }
+    if there {
+        return status;
+    }
+    end_without_file(faults, status)
+}
+
+/// What a server goes on from behind the lines of a trace's file, under these rules: all its lines, up to the last
+/// newline. What is told of them goes to `details`. All memory that the server needs is made before the file is read.
+pub fn resumed_from<S: Read>(
+    alloc: Global,
+    rules: Rules,
+    file: &mut S,
+    details: &mut Details,
+) -> Result<ResumePoint, CommandFault>
+    ensures lines { IfOk result (λ point. IsSoOfAll (S.remaining file.old)
+        (λ text. AreWholeLines text point.resumed.past.items point.bytes)) }
+    ensures recent { IfOk result (λ point. point.recent ≡ point.resumed.past.items) }
+    ensures kept { IfOk result (λ point. IsKept (lines_at point) point.resumed.present) }
+    ensures present { IfOk result (λ point. point.resumed.present.rules ≡ point.session.rules) }
+    ensures rules { IfOk result (λ point. point.session.rules ≡ rules) }
+    ensures error { IfErr result (λ fault. IsSoOfAll (S.remaining file.old) (λ text. FileSays rules text fault)) }
+{
+    let Ok((session, stream)) = rooms(alloc, rules) else {
+        return Err(CommandFault::NoMemory);
+    };
+    let heard = match hear_cut(alloc, rules, file, details) {
+        Ok(heard) => heard,
+        Err(fault) => return Err(told(fault)),
+    };
+    let Heard {
+        judge,
+        bytes,
+        recent,
+    } = heard;
+    let resumed = match gone_on(judge) {
+        Ok(resumed) => resumed,
+        Err(fault) => return Err(fault),
+    };
+    Ok(ResumePoint {
+        resumed,
+        recent,
+        bytes,
+        session,
+        stream,
+    })
+}
+
+// The memory of a session under these rules, and for the text of its lines.
+fn rooms(alloc: Global, rules: Rules) -> Result<(SessionRoom, StreamRoom), NoMemory>
+    ensures { IfOk result (λ made. made.0.rules ≡ rules) }
+{
+    Ok((SessionRoom::new(alloc, rules)?, StreamRoom::new(alloc)?))
+}
+
+// What a server goes on from behind the lines that a judge heard. The fault is the line that differs, if no legal
+// history begins with them.
+fn gone_on(judge: Judge) -> Result<Resumed, CommandFault>
+    ensures past { IfOk result (λ r. r.past.items ≡ judge.lines) }
+    ensures kept { IfOk result (λ r. IsKept (judge.lines ++ told_lines r.missing) r.present) }
+    ensures rules { IfOk result (λ r. r.present.rules ≡ judge.rules) }
+    ensures error { IfErr result (λ fault. DiffersBy judge.rules judge.lines fault) }
+{
+    if !judge.begins() {
+        return Err(difference(&judge));
+    }
+    match judge.into_resumed() {
+        Some(resumed) => Ok(resumed),
+        None => unreachable!(),
+    }
+}
+
+// Where the lines differ that begin no legal history.
+fn difference(judge: &Judge) -> CommandFault
+    requires none { IsBeginning judge.now.rules judge.now.lines → ⊥ }
+    ensures { DiffersBy judge.now.rules judge.now.lines result }
+{
+    match judge.verdict() {
+        Verdict::Legal => unreachable!(),
+        Verdict::Differs(n) => CommandFault::Differs(n),
+    }
+}
+
+// The fault of a reading, as the server tells it.
+fn told(fault: AuditFault) -> CommandFault
+    ensures { result ≡ told_of_reading fault }
+{
+    match fault {
+        AuditFault::BadLine(n) => CommandFault::BadLine(n),
+        AuditFault::NoMemory => CommandFault::NoMemory,
+        AuditFault::Read => CommandFault::Read,
+    }
+}

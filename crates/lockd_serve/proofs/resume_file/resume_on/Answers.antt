@@ -1,9 +1,0 @@
-use Rattle.std.proofs.Common.{inr}
-use Rattle.lockd_serve.proofs.BehindLemmas.{serves}
-use Rattle.lockd_serve.proofs.resume_file.resume_on.Goals as goal
-
-pub returns-clause-over : goal.returns-clause-over
-returns-clause-over g c =
-    let run = c.resume_stream-status.result.1 in
-    let over = c.resume_stream-status.ensures.over in
-    inr (serves _ _ _ _ _ _ _ run _ c.in-Ok.ensures.rules over (c.end_at-status.ensures run.fault _ over.ends))
