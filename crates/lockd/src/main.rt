@@ -1,16 +1,16 @@
 //! `lockd`: keeps the locks of a directory of lock files. `lockd_cli` reads the command line, and each command is a
-//! function of `lockd_commands` or of `lockd_serve`. Where a trace goes, and whether orders are refused when its file
-//! can't be written, are contracts (`opened`, `when_full`). Contracts let through:
+//! function of `lockd_commands` or of `lockd_serve`; `lockd_stdio` runs those that read standard input. Where a trace
+//! goes, and whether orders are refused when its file can't be written, are contracts (`opened`, `when_full`).
+//! Contracts let through:
 //! - a `run` that runs another command than is asked for;
-//! - a function of a command (`script` .. `drive`, `serve`, `serve_opened`, `resume`) that gives it other rules, flags
-//!   or workers, another path, another `when_full`, or another trace than `opened` made, or has another status;
+//! - a function of a command (`serve`, `serve_opened`, `resume`) that gives it other rules or workers, another path,
+//!   another `when_full`, or another trace than `opened` made, or has another status;
 //! - an `opened` or a `resume` whose file is at another path, or that is always refused; a `made` that writes over a
 //!   file that is there, or one of them that doesn't append;
 //! - a `remove_unused` that takes away the trace's file of a session that was served, or another's file, or leaves one
 //!   of none;
 //! - any line of `--verbose`, and one without that option;
-//! - a `main` that prints no refusal, or ends with another status;
-//! - a `hold_closed_streams` that holds none.
+//! - a `main` that prints no refusal, or ends with another status.
 //!
 //! The scripts of `tests/commands` and `tests/serve` meet these.
 #![tactic(auto)]
@@ -18,10 +18,9 @@
 ghost use Rattle.std.specs.Prelude.{IfOk};
 ghost use Rattle.lockd_cli.specs.Numbers.{HasWorkers};
 
-use host::Host;
 use lockd_cli::{Asked, CommandLine, UsageError, print_version, read_words};
 use lockd_commands::{CommandFault, Status};
-use reading::{bytes, check, drive, locks, script};
+use lockd_stdio::{Host, bytes, check, drive, locks, script};
 use serving::{resume, serve};
 use std::fs::Files;
 use std::io::Write;
@@ -31,11 +30,7 @@ use std::sync::Wait;
 use std::thread::Threads;
 use std::{env, io};
 
-mod descriptors;
-mod host;
-mod reading;
 mod serving;
-mod words;
 
 fn main(rt: HostRuntime) -> ExitCode {
     match asked(&rt) {

@@ -5,15 +5,13 @@ ghost use Rattle.std.specs.Io.KnownBytes.{Keeps};
 ghost use Rattle.lockd.specs.Inside.{AsksFile, AsksRefusal, GoesWhere};
 ghost use Rattle.lockd_resume.specs.Ending.{Ends};
 
-use crate::descriptors::hold_closed_streams;
-use crate::host::Host;
-use crate::words::ServerWords;
 use lockd_cli::{Trace, WhenFull, WhenStuck};
 use lockd_commands::{CommandFault, Noting, Rules, Status};
 use lockd_serve::{
     Announcing, Observer, ServeOptions, TraceTo, Untraced, WhenUnwritten, WhenWriterFails,
     end_unopened, end_without_file, is_at, is_unused, resume_on, serve_on,
 };
+use lockd_stdio::{Host, ServerWords, hold_closed_streams};
 use std::fs::{File, Files, OpenOptions};
 use std::io::{Stderr, Write};
 use std::net::Net;

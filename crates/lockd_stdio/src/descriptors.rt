@@ -11,7 +11,7 @@ const NULL_DEVICE: &str = "/dev/null";
 /// gets the least number that is free. So the null device takes the place of each stream that is closed, the wrong way
 /// round: an input from there, and an output to it, fail as they would on a closed stream. If it can't be opened,
 /// nothing changes.
-pub(crate) fn hold_closed_streams(rt: &HostRuntime) {
+pub fn hold_closed_streams(rt: &HostRuntime) {
     for _ in 0..3 {
         match hold_next(rt) {
             Ok(true) => {}

@@ -1,7 +1,7 @@
 //! What `--verbose` adds on standard error.
 
 use lockd_commands::{Details, Status, explain_streams, explain_trace};
-use lockd_serve::{Observer, Parting, Untraced};
+use lockd_streams::{Observer, Parting, Untraced};
 use std::alloc::Global;
 use std::fmt::Display;
 use std::fs::Files;
@@ -12,7 +12,7 @@ use std::{fs, io};
 
 /// Says what a server does, and why it serves nobody, if that is asked for.
 #[derive(Drop)]
-pub(crate) struct ServerWords<'a, R, W> {
+pub struct ServerWords<'a, R, W> {
     rt: &'a R,
     to: Option<W>,
     // The path of the socket, and that of the trace's file, if there is one.
@@ -26,12 +26,7 @@ pub(crate) struct ServerWords<'a, R, W> {
 
 impl<'a, R: Files, W: Write> ServerWords<'a, R, W> {
     /// To this writer; to none, nothing is said.
-    pub(crate) fn new(
-        rt: &'a R,
-        to: Option<W>,
-        socket: &'a str,
-        file: &'a str,
-    ) -> ServerWords<'a, R, W> {
+    pub fn new(rt: &'a R, to: Option<W>, socket: &'a str, file: &'a str) -> ServerWords<'a, R, W> {
         ServerWords {
             rt,
             to,
@@ -43,13 +38,13 @@ impl<'a, R: Files, W: Write> ServerWords<'a, R, W> {
     }
 
     /// The trace's file was made.
-    pub(crate) fn begun(&mut self) {
+    pub fn begun(&mut self) {
         let file = self.file;
         self.say(format_args!("the trace goes to {file}"));
     }
 
     /// The trace's file was made, and can't be locked for this reason.
-    pub(crate) fn unlocked(&mut self, why: &io::Error) {
+    pub fn unlocked(&mut self, why: &io::Error) {
         let file = self.file;
         self.say(format_args!(
             "{file}: it can't be locked: {why}\nlet no other server go on in it by --resume"
@@ -57,7 +52,7 @@ impl<'a, R: Files, W: Write> ServerWords<'a, R, W> {
     }
 
     /// The server ended so, and the last write to its output that failed did so for this reason.
-    pub(crate) fn printed(&mut self, status: Status, unwritten: Option<ErrorKind>) {
+    pub fn printed(&mut self, status: Status, unwritten: Option<ErrorKind>) {
         if let Some(to) = &mut self.to {
             explain_streams(to, status, None, unwritten);
         }

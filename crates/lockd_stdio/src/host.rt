@@ -2,9 +2,9 @@
 
 use std::alloc::Global;
 
-/// The runtime, and whether more is said than the papers fix (`--verbose`).
+/// The runtime, and whether `--verbose` adds lines on standard error.
 #[derive(Clone, Copy)]
-pub(crate) struct Host<'a> {
+pub struct Host<'a> {
     pub rt: &'a HostRuntime,
     pub verbose: bool,
 }

@@ -16,7 +16,7 @@ use std::path::Path;
 const INPUT: &str = "standard input";
 
 /// `lockd script`.
-pub(crate) fn script(host: Host<'_>, rules: Rules) -> Status {
+pub fn script(host: Host<'_>, rules: Rules) -> Status {
     let rt = host.rt;
     let mut input = Kept::new(Noting::new(rt.reader()), host.memory());
     let mut output = Noting::new(io::writer(rt));
@@ -34,7 +34,7 @@ pub(crate) fn script(host: Host<'_>, rules: Rules) -> Status {
 }
 
 /// `lockd check`.
-pub(crate) fn check(host: Host<'_>, rules: Rules, tells_quiet: bool, cut: bool) -> Status {
+pub fn check(host: Host<'_>, rules: Rules, tells_quiet: bool, cut: bool) -> Status {
     let (rt, alloc) = (host.rt, host.rt.alloc());
     let options = CheckOptions { tells_quiet, cut };
     let mut input = Noting::new(rt.reader());
@@ -56,7 +56,7 @@ pub(crate) fn check(host: Host<'_>, rules: Rules, tells_quiet: bool, cut: bool) 
 }
 
 /// `lockd locks`.
-pub(crate) fn locks(
+pub fn locks(
     host: Host<'_>,
     rules: Rules,
     at: Option<u32>,
@@ -93,7 +93,7 @@ pub(crate) fn locks(
 }
 
 /// `lockd bytes`.
-pub(crate) fn bytes(host: Host<'_>, rules: Rules) -> Status {
+pub fn bytes(host: Host<'_>, rules: Rules) -> Status {
     let rt = host.rt;
     let mut input = Kept::new(Noting::new(rt.reader()), host.memory());
     let mut output = Noting::new(io::writer(rt));
@@ -111,7 +111,7 @@ pub(crate) fn bytes(host: Host<'_>, rules: Rules) -> Status {
 }
 
 /// `lockd drive`.
-pub(crate) fn drive(host: Host<'_>, socket: &str) -> Status {
+pub fn drive(host: Host<'_>, socket: &str) -> Status {
     let rt = host.rt;
     hold_closed_streams(rt);
     let mut input = Kept::new(Noting::new(rt.reader()), host.memory());
