@@ -121,7 +121,8 @@ impl<L: BoardName, R: Wait + Drop + Copy, J: Journal> Record<L, R, J> {
             unreachable!();
         };
         self.book.add(&mut seat.share, 1);
-        self.writer.add(order, tolds.own_alone(order), &before, &self.all);
+        self.writer
+            .add(order, tolds.own_alone(order), &before, &self.all);
         seat.handed = self.all.again();
         Ok(())
     }

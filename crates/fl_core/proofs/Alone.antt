@@ -7,9 +7,9 @@ use Rattle.fl_waiting.specs.Waiting.{Wish, wish_on, wish_of, wishes, passes, old
 use Rattle.fl_waiting.specs.Waiting.{is_blocked_by, anyone, is_blocked_by_older, conflicts_with_held, waits, AllBehind}
 use Rattle.fl_waiting.specs.declared.parked.Request.{Request}
 use Rattle.fl_waiting.specs.declared.rules.Rules.{Rules}
-use Rattle.fl_ranges.specs.declared.lock.Mark.{Mark}
-use Rattle.fl_ranges.specs.Conflict.{conflicts}
-use Rattle.fl_ranges.specs.Marking.{Marking, Stroke}
+use Rattle.fl_marks.specs.declared.lock.Mark.{Mark}
+use Rattle.fl_marks.specs.Conflict.{conflicts}
+use Rattle.fl_marks.specs.Marking.{Marking, Stroke}
 
 -- a lock that is held keeps a request waiting
 abbrev pub waits_alone : Marking → Request → Bool

@@ -14,8 +14,8 @@ use Rattle.fl_order.specs.declared.errno.Errno.{Errno}
 use Rattle.fl_order.specs.declared.told.Answer.{Answer}
 use Rattle.fl_order.specs.declared.told.Told.{Told}
 use Rattle.fl_order.specs.declared.order.Order.{Order}
-use Rattle.fl_ranges.specs.Marking.{Marking}
-use Rattle.fl_ranges.specs.Change.{Change, after_change, after_changes}
+use Rattle.fl_marks.specs.Marking.{Marking}
+use Rattle.fl_marks.specs.Change.{Change, after_change, after_changes}
 
 after_changes-append : (later earlier : List Change) (m : Marking) → after_changes (later ++ earlier) m ≡ after_changes later (after_changes earlier m)
 after_changes-append [] earlier m = refl

@@ -13,8 +13,8 @@ use Rattle.fl_order.specs.declared.order.Op.{Op}
 use Rattle.fl_order.specs.declared.order.Op.TheVariants.{Setlkw}
 use Rattle.fl_order.specs.declared.order.Order.{Order}
 use Rattle.fl_order.specs.declared.told.Answer.{Answer}
-use Rattle.fl_ranges.specs.declared.lock.Mark.{Mark}
-use Rattle.fl_ranges.specs.Marking.{Marking, Stroke}
+use Rattle.fl_marks.specs.declared.lock.Mark.{Mark}
+use Rattle.fl_marks.specs.Marking.{Marking, Stroke}
 use Rattle.fl_waiting.specs.Circle.{is_deadlock}
 use Rattle.fl_waiting.specs.LockRequest.{is_flock, mark_of, stroke_of}
 use Rattle.fl_waiting.specs.Waiting.{Wish, wish_on, wish_of, wishes, older_blocks, is_parked, is_blocked, waits}

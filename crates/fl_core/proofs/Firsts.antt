@@ -28,7 +28,7 @@ use Rattle.fl_order.specs.declared.order.LockAsk.{LockAsk}
 use Rattle.fl_order.specs.declared.order.Op.{Op}
 use Rattle.fl_order.specs.declared.order.Op.TheVariants.{Forget, Release, Setlkw, Interrupt}
 use Rattle.fl_order.specs.declared.order.Order.{Order}
-use Rattle.fl_ranges.specs.Marking.{Marking}
+use Rattle.fl_marks.specs.Marking.{Marking}
 
 only_false : (b : Bool) → (b ≡ true → ⊥) → b ≡ false
 only_false true f = absurd (f refl)

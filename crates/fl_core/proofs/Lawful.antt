@@ -18,13 +18,13 @@ use Rattle.fl_order.specs.declared.order.Op.TheVariants.{Flush, Release, Setlk, 
 use Rattle.fl_order.specs.declared.order.Order.{Order}
 use Rattle.fl_order.specs.declared.told.Answer.{Answer}
 use Rattle.fl_order.specs.declared.told.Told.{Told}
-use Rattle.fl_ranges.specs.Change.{cleared, after_change, after_changes}
-use Rattle.fl_ranges.specs.Conflict.{conflicts, IsLawful}
-use Rattle.fl_ranges.specs.Marking.{Marking, Stroke, stroked}
-use Rattle.fl_ranges.specs.Runs.{without_node}
-use Rattle.fl_ranges.specs.declared.lock.Class.{Class}
-use Rattle.fl_ranges.specs.declared.lock.Class.TheVariants.{Flock, Record}
-use Rattle.fl_ranges.specs.declared.lock.Mark.{Mark}
+use Rattle.fl_marks.specs.Change.{cleared, after_change, after_changes}
+use Rattle.fl_marks.specs.Conflict.{conflicts, IsLawful}
+use Rattle.fl_marks.specs.Marking.{Marking, Stroke, stroked}
+use Rattle.fl_marks.specs.Runs.{without_node}
+use Rattle.fl_marks.specs.declared.lock.Class.{Class}
+use Rattle.fl_marks.specs.declared.lock.Class.TheVariants.{Flock, Record}
+use Rattle.fl_marks.specs.declared.lock.Mark.{Mark}
 use Rattle.fl_waiting.specs.Circle.{is_deadlock}
 use Rattle.fl_waiting.specs.LockRequest.{mark_of, stroke_of}
 use Rattle.fl_waiting.specs.Waiting.{AllWait, AreApart, conflicts_with_held, is_blocked, is_parked}

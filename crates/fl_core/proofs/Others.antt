@@ -14,7 +14,7 @@ use Rattle.fl_order.specs.declared.order.Op.{Op}
 use Rattle.fl_order.specs.declared.order.Op.TheVariants.{Setlkw}
 use Rattle.fl_order.specs.declared.order.Order.{Order}
 use Rattle.fl_order.specs.declared.told.Answer.{Answer}
-use Rattle.fl_ranges.specs.Change.{after_changes}
+use Rattle.fl_marks.specs.Change.{after_changes}
 use Rattle.fl_waiting.specs.Waiting.{AllWait}
 
 module _ (order : Order) (p : Snapshot) (all : AllWait p.rules p.marking p.view.parked) where

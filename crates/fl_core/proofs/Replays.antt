@@ -14,7 +14,7 @@ use Rattle.fl_order.specs.declared.order.LockAsk.{LockAsk}
 use Rattle.fl_order.specs.declared.order.Op.TheVariants.{Setlk, Setlkw}
 use Rattle.fl_order.specs.declared.order.Order.{Order}
 use Rattle.fl_order.specs.declared.told.Answer.{Answer}
-use Rattle.fl_ranges.specs.Change.{after_changes}
+use Rattle.fl_marks.specs.Change.{after_changes}
 
 -- a lock request that is granted
 pub granted_made : (order : Order) (ask : LockAsk) (answer : Answer) (p : Snapshot) → (order.op ≡ Setlk ask) ⊎ (order.op ≡ Setlkw ask)

@@ -12,11 +12,11 @@ use Rattle.fl_order.specs.declared.errno.Errno.{Errno}
 use Rattle.fl_order.specs.declared.errno.Errno.TheVariants.{EDEADLK, ENOLCK}
 use Rattle.fl_order.specs.declared.told.Answer.{Answer}
 use Rattle.fl_order.specs.declared.order.LockAsk.{LockAsk}
-use Rattle.fl_ranges.specs.Change.{after_changes}
-use Rattle.fl_ranges.specs.declared.lock.Key.{Key}
-use Rattle.fl_ranges.specs.declared.lock.Mark.{Mark}
-use Rattle.fl_ranges.specs.declared.lock.Range.{Range}
-use Rattle.fl_ranges.specs.Marking.{Marking, Stroke, stroke_on, stroked}
+use Rattle.fl_marks.specs.Change.{after_changes}
+use Rattle.fl_marks.specs.declared.lock.Key.{Key}
+use Rattle.fl_marks.specs.declared.lock.Mark.{Mark}
+use Rattle.fl_marks.specs.declared.lock.Range.{Range}
+use Rattle.fl_marks.specs.Marking.{Marking, Stroke, stroke_on, stroked}
 
 pub asked_stroke : (node : ℕ) (ask : LockAsk) (key : Key) (range : Range) (mark : Option Mark) → key ≡ key_of node ask
     → (range.start ≡ start_of ask) × (range.end ≡ end_of ask) → mark ≡ mark_of ask → stroke_on key range mark ≡ stroke_of node ask

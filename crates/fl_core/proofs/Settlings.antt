@@ -8,7 +8,7 @@ use Rattle.fl_core.specs.Settling.{Present, Settled, present, granted_told, mark
 use Rattle.fl_core.specs.Settling.{with_told, answered_first, settled_within, settled, IsSettled, done, one}
 use Rattle.fl_core.proofs.Taken.{keep, apart_without}
 use Rattle.fl_order.specs.declared.told.Told.{Told}
-use Rattle.fl_ranges.specs.Marking.{Marking}
+use Rattle.fl_marks.specs.Marking.{Marking}
 
 -- each of the requests waits; these are older than all
 abbrev pub WaitBehind : Rules → Marking → List Request → List Request → Type 0

@@ -31,16 +31,16 @@ use Rattle.fl_order.specs.declared.order.LockAsk.{LockAsk}
 use Rattle.fl_order.specs.declared.order.Op.{Op}
 use Rattle.fl_order.specs.declared.order.Op.TheVariants.{Release, Setlk, Setlkw}
 use Rattle.fl_order.specs.declared.order.Order.{Order}
-use Rattle.fl_ranges.specs.declared.lock.Class.{Class}
-use Rattle.fl_ranges.specs.declared.lock.Class.TheVariants.{Record, Flock}
-use Rattle.fl_ranges.specs.declared.lock.Key.{Key}
-use Rattle.fl_ranges.specs.declared.lock.Kind.{Kind}
-use Rattle.fl_ranges.specs.declared.lock.Kind.TheVariants.{Read, Write}
-use Rattle.fl_ranges.specs.declared.lock.Mark.{Mark}
-use Rattle.fl_ranges.specs.Change.{Change, struck, cleared, after_change, after_changes}
-use Rattle.fl_ranges.specs.Conflict.{owner_conflicts}
-use Rattle.fl_ranges.specs.Marking.{Marking, Stroke, stroked}
-use Rattle.fl_ranges.specs.Runs.{without_node}
+use Rattle.fl_marks.specs.declared.lock.Class.{Class}
+use Rattle.fl_marks.specs.declared.lock.Class.TheVariants.{Record, Flock}
+use Rattle.fl_marks.specs.declared.lock.Key.{Key}
+use Rattle.fl_marks.specs.declared.lock.Kind.{Kind}
+use Rattle.fl_marks.specs.declared.lock.Kind.TheVariants.{Read, Write}
+use Rattle.fl_marks.specs.declared.lock.Mark.{Mark}
+use Rattle.fl_marks.specs.Change.{Change, struck, cleared, after_change, after_changes}
+use Rattle.fl_marks.specs.Conflict.{owner_conflicts}
+use Rattle.fl_marks.specs.Marking.{Marking, Stroke, stroked}
+use Rattle.fl_marks.specs.Runs.{without_node}
 
 -- ---- who asks
 

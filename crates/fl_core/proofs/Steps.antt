@@ -30,8 +30,8 @@ use Rattle.fl_order.specs.declared.order.Op.TheVariants.{Getattr, Getlk, Setlkw,
 use Rattle.fl_order.specs.declared.order.Order.{Order}
 use Rattle.fl_order.specs.declared.told.Answer.{Answer}
 use Rattle.fl_order.specs.declared.told.Told.{Told}
-use Rattle.fl_ranges.specs.Change.{after_changes}
-use Rattle.fl_ranges.specs.Marking.{Marking}
+use Rattle.fl_marks.specs.Change.{after_changes}
+use Rattle.fl_marks.specs.Marking.{Marking}
 
 -- requests that are ended have other uniques than an order whose unique is none of theirs
 ended_others : (u : ℕ) (e : Errno) (test : Request → Bool) (parked : List Request) → AllByRecursion (λ (r : Request). r.unique ≢ u) parked

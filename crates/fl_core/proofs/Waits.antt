@@ -16,12 +16,12 @@ use Rattle.fl_core.specs.declared.settling.Touched.TheVariants.{Nothing, OfClass
 use Rattle.fl_core.proofs.Alone.{waits_alone, waits_by, waits_unfair, each_so, behind_more, behind_parts, behind_both}
 use Rattle.fl_core.proofs.Alone.{behind_less, behind_without}
 use Rattle.fl_core.proofs.Taken.{keep}
-use Rattle.fl_ranges.specs.declared.lock.Class.{Class}
-use Rattle.fl_ranges.specs.declared.lock.Key.{Key}
-use Rattle.fl_ranges.specs.declared.lock.Kind.{Kind}
-use Rattle.fl_ranges.specs.declared.lock.Mark.{Mark}
-use Rattle.fl_ranges.specs.Conflict.{conflicts, kinds_conflict, SameElsewhere}
-use Rattle.fl_ranges.specs.Marking.{Marking, Stroke, class_number}
+use Rattle.fl_marks.specs.declared.lock.Class.{Class}
+use Rattle.fl_marks.specs.declared.lock.Key.{Key}
+use Rattle.fl_marks.specs.declared.lock.Kind.{Kind}
+use Rattle.fl_marks.specs.declared.lock.Mark.{Mark}
+use Rattle.fl_marks.specs.Conflict.{conflicts, kinds_conflict, SameElsewhere}
+use Rattle.fl_marks.specs.Marking.{Marking, Stroke, class_number}
 
 conflict_same : (m n : Marking) (s : Stroke) (mark : Option Mark)
     → ((kind : Kind) → conflicts n s.key s.start s.end kind ≡ conflicts m s.key s.start s.end kind) → conflicts_with_held n s mark ≡ conflicts_with_held m s mark

@@ -1,8 +1,8 @@
 -- How snapshots are told apart by proofs: as pairs and lists.
 use Rattle.std.specs.Prelude.{List, refl}
 use Rattle.std.specs.Coded.{Coded, code_by, coded×, coded_list}
-use Rattle.fl_ranges.specs.Marking.{Marking}
-use Rattle.fl_ranges.specs.Codes.{marking_code}
+use Rattle.fl_marks.specs.Marking.{Marking}
+use Rattle.fl_marks.specs.Codes.{marking_code}
 use Rattle.fl_dir.specs.Directory.{Listing}
 use Rattle.fl_dir.specs.Codes.{listing_code}
 use Rattle.fl_core.specs.State.{View, Snapshot}

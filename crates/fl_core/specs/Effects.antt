@@ -17,9 +17,9 @@ use Rattle.fl_order.specs.declared.order.Op.{Op}
 use Rattle.fl_order.specs.declared.order.Op.TheVariants.{Lookup, Forget, Unlink, Open, Release, Flush, Create, Setlk}
 use Rattle.fl_order.specs.declared.order.Op.TheVariants.{Setlkw}
 use Rattle.fl_order.specs.declared.order.LockAsk.{LockAsk}
-use Rattle.fl_ranges.specs.declared.lock.Class.{Class}
-use Rattle.fl_ranges.specs.declared.lock.Class.TheVariants.{Record, Flock}
-use Rattle.fl_ranges.specs.Change.{Change, struck, cleared, after_changes}
+use Rattle.fl_marks.specs.declared.lock.Class.{Class}
+use Rattle.fl_marks.specs.declared.lock.Class.TheVariants.{Record, Flock}
+use Rattle.fl_marks.specs.Change.{Change, struck, cleared, after_changes}
 
 -- what is there afterwards but the locks, and the changes of locks with the last one first
 pub record Effect : Type 0 where

@@ -24,14 +24,14 @@ use Rattle.fl_order.specs.declared.order.Op.{Op}
 use Rattle.fl_order.specs.declared.order.Op.TheVariants.{Lookup, Forget, Getattr, Unlink, Open, Release, Flush}
 use Rattle.fl_order.specs.declared.order.Op.TheVariants.{Create, Getlk, Setlk, Setlkw, Interrupt}
 use Rattle.fl_order.specs.declared.order.LockAsk.{LockAsk}
-use Rattle.fl_ranges.specs.declared.held.Held.{Held}
-use Rattle.fl_ranges.specs.declared.lock.Key.{Key}
-use Rattle.fl_ranges.specs.declared.lock.Kind.{Kind}
-use Rattle.fl_ranges.specs.declared.lock.Kind.TheVariants.{Read, Write}
-use Rattle.fl_ranges.specs.declared.lock.Mark.{Mark}
-use Rattle.fl_ranges.specs.Marking.{Marking, Stroke, stroked}
-use Rattle.fl_ranges.specs.Runs.{runs}
-use Rattle.fl_ranges.specs.Blocker.{blocker}
+use Rattle.fl_marks.specs.declared.held.Held.{Held}
+use Rattle.fl_marks.specs.declared.lock.Key.{Key}
+use Rattle.fl_marks.specs.declared.lock.Kind.{Kind}
+use Rattle.fl_marks.specs.declared.lock.Kind.TheVariants.{Read, Write}
+use Rattle.fl_marks.specs.declared.lock.Mark.{Mark}
+use Rattle.fl_marks.specs.Marking.{Marking, Stroke, stroked}
+use Rattle.fl_marks.specs.Runs.{runs}
+use Rattle.fl_marks.specs.Blocker.{blocker}
 
 -- other flags than the whole-file bit, a type above 2, or a range of a record lock that is no range
 abbrev pub is_malformed : LockAsk → Bool

@@ -11,8 +11,8 @@ use Rattle.fl_waiting.specs.declared.rules.Rules.{Rules}
 use Rattle.fl_order.specs.declared.errno.Errno.{Errno}
 use Rattle.fl_order.specs.declared.told.Answer.{Answer}
 use Rattle.fl_order.specs.declared.told.Told.{Told}
-use Rattle.fl_ranges.specs.Change.{after_changes}
-use Rattle.fl_ranges.specs.Marking.{Marking}
+use Rattle.fl_marks.specs.Change.{after_changes}
+use Rattle.fl_marks.specs.Marking.{Marking}
 
 -- the locks, and the parked requests in the order of asking
 pub record Present : Type 0 where

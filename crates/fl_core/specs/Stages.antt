@@ -14,7 +14,7 @@ use Rattle.fl_order.specs.declared.order.LockAsk.{LockAsk}
 use Rattle.fl_order.specs.declared.order.Op.{Op}
 use Rattle.fl_order.specs.declared.order.Op.TheVariants.{Setlk, Setlkw}
 use Rattle.fl_order.specs.declared.order.Order.{Order}
-use Rattle.fl_ranges.specs.Marking.{Marking}
+use Rattle.fl_marks.specs.Marking.{Marking}
 
 -- a record lock is asked for, of type read or write, whatever the answer is
 abbrev pub asks_record_lock : LockAsk → Bool

@@ -1,7 +1,7 @@
 -- The state of the lock directory, as recorded lines give it, and what contracts see of it.
 use Rattle.std.specs.Prelude.{List, []}
-use Rattle.fl_ranges.specs.Marking.{Marking}
-use Rattle.fl_ranges.specs.Change.{Change, marking_after}
+use Rattle.fl_marks.specs.Marking.{Marking}
+use Rattle.fl_marks.specs.Change.{Change, marking_after}
 use Rattle.fl_dir.specs.Directory.{Listing, opening_listing}
 use Rattle.fl_waiting.specs.declared.parked.Request.{Request}
 use Rattle.fl_waiting.specs.declared.rules.Rules.{Rules}

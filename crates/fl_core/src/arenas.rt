@@ -2,7 +2,8 @@
 
 use crate::state::Core;
 use fl_dir::DirArenas;
-use fl_ranges::{Key, Mark, Rows, Span};
+use fl_marks::{Key, Mark};
+use fl_ranges::{Rows, Span};
 use fl_waiting::{Arena, Claim};
 
 /// The arenas that hold what is there: six, since the rows of locks have two.

@@ -18,8 +18,8 @@ ghost use Rattle.fl_order.specs.declared.order.Op.TheVariants.{Setlkw};
 ghost use Rattle.fl_order.specs.declared.order.Order.{Order};
 ghost use Rattle.fl_order.specs.declared.told.Answer.{Answer};
 ghost use Rattle.fl_order.specs.declared.told.Told.{Told};
-ghost use Rattle.fl_ranges.specs.Conflict.{IsLawful};
-ghost use Rattle.fl_ranges.specs.Marking.{Marking};
+ghost use Rattle.fl_marks.specs.Conflict.{IsLawful};
+ghost use Rattle.fl_marks.specs.Marking.{Marking};
 
 /// What is shown of a state after an effect is the snapshot after that effect.
 pub fn effects_are_shown_alike()
@@ -31,7 +31,7 @@ pub fn first_replies_are_those_of_the_orders_case()
     ensures { (p : Snapshot) (order : Order) (tolds : List Told) → AreApart p.view.parked →
         (tolds ≡ first_told p order) ↔ IsFirst p order tolds }
 {
-    fl_waiting::laws::a_circle_is_a_path_of_owners_who_wait();
+    fl_circle::laws::a_circle_is_a_path_of_owners_who_wait();
 }
 
 /// Settling takes out the oldest request that doesn't wait, again and again, until each waits.
@@ -79,7 +79,7 @@ pub fn an_order_is_taken_in_stages()
         (present (next p order).marking (next p order).view.parked) }
 {
     fl_ranges::laws::a_change_counts_where_it_speaks();
-    fl_waiting::laws::a_circle_is_a_path_of_owners_who_wait();
+    fl_circle::laws::a_circle_is_a_path_of_owners_who_wait();
 }
 
 /// What fair rules promise: while a request for a record lock is parked, a later SETLKW for a lock that conflicts

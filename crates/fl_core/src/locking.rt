@@ -2,9 +2,9 @@
 
 ghost use Rattle.std.specs.Prelude.{◌≡◌, ◌↔◌, true, false, Some, None, [], ◌∷◌, ◌++◌, if◌then◌else◌, IfErr, IfOk};
 ghost use Rattle.std.specs.Prelude.{IfSome, OnOk, OnErr, IsNone};
-ghost use Rattle.fl_ranges.specs.Marking.{stroke_on, stroked};
-ghost use Rattle.fl_ranges.specs.Conflict.{IsLawful, SameElsewhere, SameOffNode};
-ghost use Rattle.fl_ranges.specs.Change.{cleared, after_change, after_changes};
+ghost use Rattle.fl_marks.specs.Marking.{stroke_on, stroked};
+ghost use Rattle.fl_marks.specs.Conflict.{IsLawful, SameElsewhere, SameOffNode};
+ghost use Rattle.fl_marks.specs.Change.{cleared, after_change, after_changes};
 ghost use Rattle.fl_waiting.specs.Circle.{is_deadlock};
 ghost use Rattle.fl_waiting.specs.LockRequest.{is_flock, key_of, start_of, end_of, mark_of};
 ghost use Rattle.fl_core.specs.Effects.{dropped, locked, unlocked};
@@ -13,9 +13,11 @@ ghost use Rattle.fl_core.specs.Replies.{setlk_reply, setlkw_reply, getlk_reply};
 ghost use Rattle.fl_core.specs.Inside.Touched.{WaitsNow};
 ghost use Rattle.fl_waiting.specs.Waiting.{conflicts_with_held, is_blocked};
 
+use fl_circle::close_circle;
 use fl_dir::Dir;
+use fl_marks::{Class, Held, Key, Kind, LAST_BYTE, Mark, Range};
 use fl_order::{Answer, Errno, LockAsk};
-use fl_ranges::{Class, Held, Key, Kind, LAST_BYTE, Mark, Range, Table};
+use fl_ranges::Table;
 use fl_waiting::{Claim, Parked, Request, Rules};
 
 // The lock types of Linux `fcntl.h`.
@@ -132,7 +134,7 @@ fn is_deadlock(
 {
     match mark {
         None => false,
-        Some(mark) => parked.close_circle(rules, locks, key, range, mark.kind),
+        Some(mark) => close_circle(parked, rules, locks, key, range, mark.kind),
     }
 }
 

@@ -6,7 +6,7 @@ ghost use Rattle.fl_core.specs.Replies.{own_replies};
 ghost use Rattle.fl_core.specs.Step.{next, replies};
 ghost use Rattle.fl_core.specs.Tolds.{HasRoom};
 ghost use Rattle.fl_order.specs.declared.told.Answer.{Answer};
-ghost use Rattle.fl_ranges.specs.Change.{after_changes};
+ghost use Rattle.fl_marks.specs.Change.{after_changes};
 ghost use Rattle.fl_waiting.specs.Waiting.{is_parked};
 
 use crate::locking::{key_of, mark_of, range_of, set_range};

@@ -2,7 +2,7 @@
 
 ghost use Rattle.std.specs.Prelude.{◌≡◌, ◌≤◌, ◌+◌, ◌++◌, false, None, Some, MatchOption, List, [], length};
 ghost use Rattle.std.specs.List.{AllByRecursion};
-ghost use Rattle.fl_ranges.specs.Conflict.{IsLawful, SameElsewhere};
+ghost use Rattle.fl_marks.specs.Conflict.{IsLawful, SameElsewhere};
 ghost use Rattle.fl_waiting.specs.LockRequest.{key_of, mark_of, stroke_of};
 ghost use Rattle.fl_core.specs.Inside.Touched.{concerns_request, touched_if_done, OthersWait};
 ghost use Rattle.fl_core.specs.declared.settling.Touched.TheVariants as touched;
@@ -12,8 +12,9 @@ ghost use Rattle.fl_waiting.specs.declared.parked.Request.{Request};
 
 use crate::locking::{conflicts_with_held, key_of, set_range};
 use crate::tolds::Tolds;
+use fl_marks::Class;
 use fl_order::{Answer, Errno, LockAsk, Told};
-use fl_ranges::{Class, Table};
+use fl_ranges::Table;
 use fl_waiting::{Claim, Parked, Rules};
 
 /// Which locks may have gone, so that parked requests for them may be free.

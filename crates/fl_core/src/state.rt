@@ -9,13 +9,15 @@ ghost use Rattle.fl_core.specs.Step.{next, replies, ChangesNothing};
 ghost use Rattle.fl_core.specs.Tolds.{HasRoom};
 ghost use Rattle.fl_waiting.specs.Waiting.{is_waiting, AllWait, AreApart};
 ghost use Rattle.fl_order.specs.Order.{only_reads};
-ghost use Rattle.fl_ranges.specs.Conflict.{IsLawful};
+ghost use Rattle.fl_marks.specs.Conflict.{IsLawful};
 
 use crate::parts::Parts;
 use crate::tolds::Tolds;
+use fl_circle::close_circle;
 use fl_dir::Dir;
+use fl_marks::{Key, Kind, Range};
 use fl_order::{Answer, Errno, NoMemory, Op, Order, Told};
-use fl_ranges::{Key, Kind, Range, Table};
+use fl_ranges::Table;
 use fl_waiting::{MOST_PARKED, Parked, Rules};
 use std::alloc::Global;
 use std::marker::Model;
@@ -118,9 +120,7 @@ impl Core {
             (record { key = key.now; start = range.now.start; end = range.now.end; kind = kind }) }
     {
         let parts = &self.parts;
-        parts
-            .parked
-            .close_circle(parts.rules, &parts.locks, key, range, kind)
+        close_circle(&parts.parked, parts.rules, &parts.locks, key, range, kind)
     }
 
     /// The most replies that one order gives by its rules: its own, and one to each request that may be parked.

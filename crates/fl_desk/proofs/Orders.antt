@@ -12,7 +12,7 @@ use Rattle.fl_desk.proofs.Verdicts.{no_order, replies_first}
 use Rattle.fl_history.specs.declared.history.Line.{Line}
 use Rattle.fl_history.specs.declared.history.Line.TheVariants as line
 use Rattle.fl_order.specs.declared.told.Told.{Told}
-use Rattle.fl_ranges.specs.Conflict.{IsLawful}
+use Rattle.fl_marks.specs.Conflict.{IsLawful}
 use Rattle.fl_order.specs.declared.order.Order.{Order}
 use Rattle.fl_waiting.specs.declared.rules.Rules.{Rules}
 

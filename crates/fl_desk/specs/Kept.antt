@@ -1,7 +1,7 @@
 -- What a desk keeps.
 use Rattle.std.specs.Prelude.{◌≡◌, ℕ, List, []}
 use Rattle.fl_history.specs.declared.history.Line.{Line}
-use Rattle.fl_ranges.specs.Conflict.{IsLawful}
+use Rattle.fl_marks.specs.Conflict.{IsLawful}
 use Rattle.fl_core.specs.State.{Snapshot, opening, snapshot_of}
 use Rattle.fl_desk.specs.Replay.{state_after}
 use Rattle.fl_desk.specs.Legal.{IsLegal}

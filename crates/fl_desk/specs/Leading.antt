@@ -2,7 +2,7 @@
 use Rattle.std.specs.Prelude.{◌≡◌, ℕ, List, [], ◌++◌}
 use Rattle.fl_core.specs.State.{Snapshot, snapshot_of}
 use Rattle.fl_core.specs.Step.{replies}
-use Rattle.fl_ranges.specs.Conflict.{IsLawful}
+use Rattle.fl_marks.specs.Conflict.{IsLawful}
 use Rattle.fl_waiting.specs.Waiting.{AllWait, AreApart}
 use Rattle.fl_desk.specs.Legal.{IsLegal, step_lines}
 use Rattle.fl_desk.specs.Replay.{state_after}

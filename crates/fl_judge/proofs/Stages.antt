@@ -20,9 +20,9 @@ use Rattle.fl_waiting.specs.declared.rules.Rules.{Rules}
 use Rattle.fl_order.specs.declared.order.Order.{Order}
 use Rattle.fl_judge.specs.Quiet.{asks_while_waiting}
 use Rattle.fl_judge.proofs.Circles.{none_once_parked, none_once_gained}
-use Rattle.fl_ranges.specs.Conflict.{are_of_two_owners, mark_conflicts_by}
-use Rattle.fl_ranges.specs.Marking.{Marking, class_number}
-use Rattle.fl_ranges.specs.declared.lock.Key.{Key}
+use Rattle.fl_marks.specs.Conflict.{are_of_two_owners, mark_conflicts_by}
+use Rattle.fl_marks.specs.Marking.{Marking, class_number}
+use Rattle.fl_marks.specs.declared.lock.Key.{Key}
 
 -- ---- parts of lists of wishes
 

@@ -13,12 +13,12 @@ use Rattle.std.specs.List.Sorted.{IsNonDecreasingBy, IsPartitionPoint}
 use Rattle.std.specs.declared.cmp.Ordering.{Ordering}
 use Rattle.std.specs.declared.cmp.Ordering.TheVariants.{Less, Equal, Greater}
 use Rattle.std.specs.Ordering.{nat_cmp, ordering_then, is_lt}
-use Rattle.fl_ranges.specs.declared.lock.Mark.{Mark}
-use Rattle.fl_ranges.specs.declared.run.Run.{Run}
-use Rattle.fl_ranges.specs.Marking.{class_number, Spot, Marking}
-use Rattle.fl_ranges.specs.Runs.{is_start}
-use Rattle.fl_ranges.specs.Conflict.{are_of_two_owners, kinds_conflict}
-use Rattle.fl_ranges.specs.HeldRuns.{listing_cmp, starts_in_order, run_from, runs_in_order}
+use Rattle.fl_marks.specs.declared.lock.Mark.{Mark}
+use Rattle.fl_marks.specs.declared.run.Run.{Run}
+use Rattle.fl_marks.specs.Marking.{class_number, Spot, Marking}
+use Rattle.fl_marks.specs.Runs.{is_start}
+use Rattle.fl_marks.specs.Conflict.{are_of_two_owners, kinds_conflict}
+use Rattle.fl_marks.specs.HeldRuns.{listing_cmp, starts_in_order, run_from, runs_in_order}
 use Rattle.fl_waiting.specs.Waiting.{Wish, older_blocks}
 use Rattle.fl_locks.specs.LockRows.{lock_on}
 use Rattle.fl_locks.specs.Inside.{IsPart}

@@ -4,10 +4,10 @@ use Rattle.std.specs.Prelude.{if◌then◌else◌}
 use Rattle.std.specs.List.{filter, flat_map, list_any, cons_option}
 use Rattle.std.specs.Ordering.{nat_cmp}
 use Rattle.std.specs.FinMap.{entries, from_entries, keys}
-use Rattle.fl_ranges.specs.declared.lock.Mark.{Mark}
-use Rattle.fl_ranges.specs.declared.run.Run.{Run}
-use Rattle.fl_ranges.specs.Marking.{Marking}
-use Rattle.fl_ranges.specs.HeldRuns.{runs_in_order}
+use Rattle.fl_marks.specs.declared.lock.Mark.{Mark}
+use Rattle.fl_marks.specs.declared.run.Run.{Run}
+use Rattle.fl_marks.specs.Marking.{Marking}
+use Rattle.fl_marks.specs.HeldRuns.{runs_in_order}
 use Rattle.fl_dir.specs.Directory.{Listing}
 use Rattle.fl_dir.specs.Naming.{name_at, is_linked_at}
 use Rattle.fl_waiting.specs.declared.parked.Request.{Request}

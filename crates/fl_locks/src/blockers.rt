@@ -9,8 +9,8 @@ ghost use Rattle.fl_locks.specs.Inside.{meant, requests_of, IsPart};
 
 use crate::lock::{Lock, goes_first, is_in_the_way, lock_on};
 use crate::row::{Blocker, Blockers};
+use fl_marks::Run;
 use fl_order::NoMemory;
-use fl_ranges::Run;
 use fl_waiting::{Claim, Rules};
 use std::alloc::Global;
 

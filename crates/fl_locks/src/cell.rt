@@ -7,7 +7,7 @@ ghost use Rattle.fl_locks.specs.Cells.{unique_text, pids_text};
 use crate::name::push_name;
 use crate::row::{Blocker, LockRow};
 use crate::words::{class_word, kind_word};
-use fl_ranges::LAST_BYTE;
+use fl_marks::LAST_BYTE;
 use std::alloc::AllocError;
 use std::fmt::Write;
 

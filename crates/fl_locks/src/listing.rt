@@ -1,7 +1,7 @@
 //! All rows.
 
 ghost use Rattle.std.specs.Prelude.{◌≡◌, ◌++◌, [], IfOk, OnOk, map};
-ghost use Rattle.fl_ranges.specs.HeldRuns.{runs_in_order};
+ghost use Rattle.fl_marks.specs.HeldRuns.{runs_in_order};
 ghost use Rattle.fl_locks.specs.LockRows.{held_row, waiting_row, waiting_rows, rows_of, BlockersBlock};
 ghost use Rattle.fl_locks.specs.Inside.{requests_of};
 
@@ -10,8 +10,8 @@ use crate::lock::Lock;
 use crate::row::{Blockers, LockRow};
 use fl_core::Core;
 use fl_dir::Dir;
+use fl_marks::Run;
 use fl_order::NoMemory;
-use fl_ranges::Run;
 use fl_waiting::Claim;
 use std::alloc::Global;
 

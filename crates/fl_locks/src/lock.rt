@@ -2,12 +2,12 @@
 
 ghost use Rattle.std.specs.Prelude.{◌≡◌, option_map, ◌∷◌, [], true};
 ghost use Rattle.std.specs.List.{list_any};
-ghost use Rattle.fl_ranges.specs.Conflict.{kinds_conflict};
+ghost use Rattle.fl_marks.specs.Conflict.{kinds_conflict};
 ghost use Rattle.fl_waiting.specs.Waiting.{older_blocks};
 ghost use Rattle.fl_locks.specs.LockRows.{lock_on, goes_first};
 ghost use Rattle.fl_locks.specs.Inside.{meant};
 
-use fl_ranges::{Class, Key, Kind, Run};
+use fl_marks::{Class, Key, Kind, Run};
 use fl_waiting::Claim;
 
 /// Bytes of a key with a kind, both ends included.

@@ -3,8 +3,8 @@
 ghost use Rattle.std.specs.Prelude.{◌≡◌, [], option_copied};
 ghost use Rattle.fl_locks.specs.LockRows.{linked_name};
 
+use fl_marks::{Key, Mark};
 use fl_order::Name;
-use fl_ranges::{Key, Mark};
 use std::alloc::Global;
 use std::marker::Model;
 

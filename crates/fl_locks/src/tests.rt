@@ -2,7 +2,7 @@
 //! `tests/locks/ranges.py` have the others.
 
 use crate::{Blockers, LockRow, lock_json, lock_table};
-use fl_ranges::{Class, Key, Kind, LAST_BYTE, Mark};
+use fl_marks::{Class, Key, Kind, LAST_BYTE, Mark};
 use std::alloc::Global;
 
 const TABLE: &str = "\

@@ -3,7 +3,7 @@
 ghost use Rattle.std.specs.Prelude.{◌≡◌};
 ghost use Rattle.fl_locks.specs.Words.{class_word, kind_word};
 
-use fl_ranges::{Class, Kind};
+use fl_marks::{Class, Kind};
 
 /// `POSIX` or `FLOCK`.
 pub(crate) fn class_word(class: Class) -> &'static str

@@ -4,14 +4,14 @@ use Rattle.std.proofs.Common.{subst, arith}
 use Rattle.std.specs.FinMap.{get}
 use Rattle.std.proofs.lemmas.Bool.{false_from_ne_true}
 use Rattle.std.proofs.Math.Nat.{le_antisymm}
-use Rattle.fl_ranges.specs.declared.lock.Key.{Key}
-use Rattle.fl_ranges.specs.declared.lock.Kind.{Kind}
-use Rattle.fl_ranges.specs.declared.lock.Mark.{Mark}
-use Rattle.fl_ranges.specs.declared.held.Held.{Held}
-use Rattle.fl_ranges.specs.Marking.{Spot, Marking}
-use Rattle.fl_ranges.specs.Conflict.{conflicts, IsConflict}
-use Rattle.fl_ranges.specs.Blocker.{of_owner, IsConflicting, IsRunAt, IsBlocker, first_conflicting, run_start, run_end}
-use Rattle.fl_ranges.specs.Blocker.{lock_around, blocker}
+use Rattle.fl_marks.specs.declared.lock.Key.{Key}
+use Rattle.fl_marks.specs.declared.lock.Kind.{Kind}
+use Rattle.fl_marks.specs.declared.lock.Mark.{Mark}
+use Rattle.fl_marks.specs.declared.held.Held.{Held}
+use Rattle.fl_marks.specs.Marking.{Spot, Marking}
+use Rattle.fl_marks.specs.Conflict.{conflicts, IsConflict}
+use Rattle.fl_marks.specs.Blocker.{of_owner, IsConflicting, IsRunAt, IsBlocker, first_conflicting, run_start, run_end}
+use Rattle.fl_marks.specs.Blocker.{lock_around, blocker}
 use Rattle.fl_ranges.proofs.ConflictWords.{conflict_words}
 use Rattle.fl_ranges.proofs.BlockersRows.{at_most, row_around, same_start, same_end}
 use Rattle.fl_ranges.proofs.BlockersFirst.{IsFirst, first_found, none_conflicts}

@@ -13,12 +13,12 @@ use Rattle.std.specs.Cmp.{IsTotalOrder, nat_cmp_total, tied_itself, first_so, se
 use Rattle.std.specs.FinMap.{get, find, entries, entries_sorted, get-entries, is_sorted, IsAntisymmetric}
 use Rattle.std.specs.FinMap.Entries.{below_all}
 use Rattle.std.proofs.Math.Nat.{le_antisymm}
-use Rattle.fl_ranges.specs.declared.lock.Key.{Key}
-use Rattle.fl_ranges.specs.declared.lock.Kind.{Kind}
-use Rattle.fl_ranges.specs.declared.lock.Mark.{Mark}
-use Rattle.fl_ranges.specs.Marking.{class_number, spot_cmp, Spot, Marking}
-use Rattle.fl_ranges.specs.Conflict.{kinds_conflict, mark_conflicts}
-use Rattle.fl_ranges.specs.Blocker.{of_owner, IsConflicting, first_conflicting}
+use Rattle.fl_marks.specs.declared.lock.Key.{Key}
+use Rattle.fl_marks.specs.declared.lock.Kind.{Kind}
+use Rattle.fl_marks.specs.declared.lock.Mark.{Mark}
+use Rattle.fl_marks.specs.Marking.{class_number, spot_cmp, Spot, Marking}
+use Rattle.fl_marks.specs.Conflict.{kinds_conflict, mark_conflicts}
+use Rattle.fl_marks.specs.Blocker.{of_owner, IsConflicting, first_conflicting}
 use Rattle.fl_ranges.proofs.Markings.{spots_total, exact_spots, same_class}
 use Rattle.fl_ranges.proofs.Entries.{found_above, get_found, entry_passes, truth}
 use Rattle.fl_ranges.proofs.ConflictWords.{parts, all_parts}

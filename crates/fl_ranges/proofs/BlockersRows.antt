@@ -4,11 +4,11 @@ use Rattle.std.proofs.Common.{subst, arith}
 use Rattle.std.specs.FinMap.{get}
 use Rattle.std.proofs.lemmas.Bool.{ltb-false, ltb-true}
 use Rattle.std.proofs.Math.Nat.{le_antisymm}
-use Rattle.fl_ranges.specs.declared.lock.Key.{Key}
-use Rattle.fl_ranges.specs.declared.lock.Mark.{Mark}
-use Rattle.fl_ranges.specs.Marking.{Marking}
-use Rattle.fl_ranges.specs.Runs.{is_mark}
-use Rattle.fl_ranges.specs.Blocker.{IsRunAt, run_start, run_end}
+use Rattle.fl_marks.specs.declared.lock.Key.{Key}
+use Rattle.fl_marks.specs.declared.lock.Mark.{Mark}
+use Rattle.fl_marks.specs.Marking.{Marking}
+use Rattle.fl_marks.specs.Runs.{is_mark}
+use Rattle.fl_marks.specs.Blocker.{IsRunAt, run_start, run_end}
 use Rattle.fl_ranges.proofs.Starts.{is_mark-Decides}
 
 -- one number is at most another, if it can't be above it

@@ -5,14 +5,14 @@ use Rattle.std.proofs.Common.{List, [], ◌∷◌, ◌++◌, map, refl, ap, sym,
 use Rattle.std.proofs.lemmas.Bool.Decides.{nat_tests}
 use Rattle.std.specs.List.{AllByRecursion}
 use Rattle.std.specs.FinMap.{get}
-use Rattle.fl_ranges.specs.declared.lock.Key.{Key}
-use Rattle.fl_ranges.specs.declared.lock.Kind.{Kind}
-use Rattle.fl_ranges.specs.declared.lock.Mark.{Mark}
-use Rattle.fl_ranges.specs.declared.held.Held.{Held}
-use Rattle.fl_ranges.specs.declared.run.Run.{Run}
-use Rattle.fl_ranges.specs.Marking.{class_number, Spot, marking_of}
-use Rattle.fl_ranges.specs.Conflict.{kinds_conflict}
-use Rattle.fl_ranges.specs.Blocker.{of_owner, IsConflicting, IsRunAt, IsBlocker, blocker}
+use Rattle.fl_marks.specs.declared.lock.Key.{Key}
+use Rattle.fl_marks.specs.declared.lock.Kind.{Kind}
+use Rattle.fl_marks.specs.declared.lock.Mark.{Mark}
+use Rattle.fl_marks.specs.declared.held.Held.{Held}
+use Rattle.fl_marks.specs.declared.run.Run.{Run}
+use Rattle.fl_marks.specs.Marking.{class_number, Spot, marking_of}
+use Rattle.fl_marks.specs.Conflict.{kinds_conflict}
+use Rattle.fl_marks.specs.Blocker.{of_owner, IsConflicting, IsRunAt, IsBlocker, blocker}
 use Rattle.fl_ranges.specs.Inside.RunList.{meant, has_spot, run_at, held_at, IsWhole, AreRuns, run_conflicts}
 use Rattle.fl_ranges.specs.Inside.Nearest.{is_nearer, nearer_of, nearest_with, nearest_from, lock_of}
 use Rattle.fl_ranges.proofs.RunLists.{IsAt, at_spot, spot_of, each_at, each_found, each_ordered, run_has, same_run}

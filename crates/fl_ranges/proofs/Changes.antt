@@ -1,9 +1,9 @@
 -- What a marking has at a spot after changes.
 use Rattle.std.proofs.Common.{◌≡◌, Bool, true, false, cond, ◌==◌, Option, Some, None, List, [], ◌∷◌, refl, ap, ◌∙◌}
 use Rattle.std.specs.FinMap.{get, get-empty}
-use Rattle.fl_ranges.specs.declared.lock.Mark.{Mark}
-use Rattle.fl_ranges.specs.Marking.{Spot, spot_cmp, Marking, covers}
-use Rattle.fl_ranges.specs.Change.{Change, struck, cleared, after_change, marking_after, said_by, said_or, last_said}
+use Rattle.fl_marks.specs.declared.lock.Mark.{Mark}
+use Rattle.fl_marks.specs.Marking.{Spot, spot_cmp, Marking, covers}
+use Rattle.fl_marks.specs.Change.{Change, struck, cleared, after_change, marking_after, said_by, said_or, last_said}
 use Rattle.fl_ranges.proofs.Markings.{get-stroked, get-without_node}
 
 said_if : (b : Bool) (new old : Option Mark) → cond b new old ≡ said_or (cond b (Some new) None) old

@@ -1,10 +1,10 @@
 -- The test for a conflict, and a conflict in words.
 use Rattle.std.proofs.Common.{◌≡◌, ◌≢◌, ◌↔◌, ℕ, ◌≤◌, Bool, true, false, not, ◌&&◌, ◌==◌, nat_le, refl, ap, sym, arith}
 use Rattle.std.proofs.lemmas.Bool.Decides.{nat_tests}
-use Rattle.fl_ranges.specs.declared.lock.Key.{Key}
-use Rattle.fl_ranges.specs.declared.lock.Kind.{Kind}
-use Rattle.fl_ranges.specs.Marking.{class_number, Marking}
-use Rattle.fl_ranges.specs.Conflict.{kinds_conflict, mark_conflicts, conflicts, IsConflict}
+use Rattle.fl_marks.specs.declared.lock.Key.{Key}
+use Rattle.fl_marks.specs.declared.lock.Kind.{Kind}
+use Rattle.fl_marks.specs.Marking.{class_number, Marking}
+use Rattle.fl_marks.specs.Conflict.{kinds_conflict, mark_conflicts, conflicts, IsConflict}
 use Rattle.fl_ranges.proofs.Markings.{spots_total, exact_spots, same_class}
 use Rattle.fl_ranges.proofs.Entries.{any_entry, entry_passes}
 use Rattle.fl_ranges.proofs.Spots.{and_and_false}

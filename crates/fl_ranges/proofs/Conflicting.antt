@@ -6,12 +6,12 @@ use Rattle.std.specs.List.{list_any, find, AllByRecursion}
 use Rattle.std.specs.Cmp.{both_ways}
 use Rattle.std.specs.FinMap.{entries}
 use Rattle.std.proofs.lemmas.Bool.{or_left, or_right, and_from}
-use Rattle.fl_ranges.specs.declared.lock.Kind.{Kind}
-use Rattle.fl_ranges.specs.declared.lock.Key.{Key}
-use Rattle.fl_ranges.specs.declared.lock.Mark.{Mark}
-use Rattle.fl_ranges.specs.declared.run.Run.{Run}
-use Rattle.fl_ranges.specs.Marking.{Spot, marking_of}
-use Rattle.fl_ranges.specs.Conflict.{are_of_two_owners, kinds_conflict, mark_conflicts}
+use Rattle.fl_marks.specs.declared.lock.Kind.{Kind}
+use Rattle.fl_marks.specs.declared.lock.Key.{Key}
+use Rattle.fl_marks.specs.declared.lock.Mark.{Mark}
+use Rattle.fl_marks.specs.declared.run.Run.{Run}
+use Rattle.fl_marks.specs.Marking.{Spot, marking_of}
+use Rattle.fl_marks.specs.Conflict.{are_of_two_owners, kinds_conflict, mark_conflicts}
 use Rattle.fl_ranges.specs.Inside.RunList.{meant, has_spot, run_at, AreApart, run_conflicts}
 use Rattle.fl_ranges.proofs.Markings.{spots_total, exact_spots}
 use Rattle.fl_ranges.proofs.Entries.{any_entry, entry_passes}

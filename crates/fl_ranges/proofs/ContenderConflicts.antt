@@ -5,12 +5,12 @@ use Rattle.std.proofs.lemmas.List.Folds.{list_any-append}
 use Rattle.std.specs.List.{filter, find, list_any}
 use Rattle.fl_spans.specs.Rows.{chain_count, rows, keys, runs_at}
 use Rattle.fl_spans.specs.declared.span.Span.{Span}
-use Rattle.fl_ranges.specs.declared.lock.Key.{Key}
-use Rattle.fl_ranges.specs.declared.lock.Kind.{Kind}
-use Rattle.fl_ranges.specs.declared.lock.Mark.{Mark}
-use Rattle.fl_ranges.specs.declared.run.Run.{Run}
+use Rattle.fl_marks.specs.declared.lock.Key.{Key}
+use Rattle.fl_marks.specs.declared.lock.Kind.{Kind}
+use Rattle.fl_marks.specs.declared.lock.Mark.{Mark}
+use Rattle.fl_marks.specs.declared.run.Run.{Run}
 use Rattle.fl_ranges.specs.Placing.{home}
-use Rattle.fl_ranges.specs.Blocker.{of_owner}
+use Rattle.fl_marks.specs.Blocker.{of_owner}
 use Rattle.fl_ranges.specs.Inside.RunList.{run_conflicts}
 use Rattle.fl_ranges.specs.Inside.LockRows.{LockRow, LockRows, run_of, runs_of, runs_in, table_runs, AreLockRows}
 use Rattle.fl_ranges.specs.Inside.Contenders.{are_kin, rows_from, class_rows, kin_owner, span_conflicts}

@@ -7,12 +7,12 @@ use Rattle.std.proofs.lemmas.Bool.{and_right}
 use Rattle.std.specs.List.{filter, find, AllByRecursion}
 use Rattle.fl_spans.specs.Rows.{chain_count, rows, keys, runs_at}
 use Rattle.fl_spans.specs.declared.span.Span.{Span}
-use Rattle.fl_ranges.specs.declared.lock.Key.{Key}
-use Rattle.fl_ranges.specs.declared.lock.Kind.{Kind}
-use Rattle.fl_ranges.specs.declared.lock.Mark.{Mark}
-use Rattle.fl_ranges.specs.declared.run.Run.{Run}
+use Rattle.fl_marks.specs.declared.lock.Key.{Key}
+use Rattle.fl_marks.specs.declared.lock.Kind.{Kind}
+use Rattle.fl_marks.specs.declared.lock.Mark.{Mark}
+use Rattle.fl_marks.specs.declared.run.Run.{Run}
 use Rattle.fl_ranges.specs.Placing.{home}
-use Rattle.fl_ranges.specs.Blocker.{of_owner}
+use Rattle.fl_marks.specs.Blocker.{of_owner}
 use Rattle.fl_ranges.specs.Inside.RunList.{run_conflicts}
 use Rattle.fl_ranges.specs.Inside.LockRows.{LockRow, LockRows, run_of, runs_of, runs_in, table_runs, AreInOrder}
 use Rattle.fl_ranges.specs.Inside.LockRows.{AreLockRows}

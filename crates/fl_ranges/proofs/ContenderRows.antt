@@ -15,14 +15,14 @@ use Rattle.std.specs.Ordering.{nat_cmp, ordering_then, is_lt}
 use Rattle.fl_spans.specs.Rows.{chain_count, row_lists, rows, keys, runs_at}
 use Rattle.fl_spans.specs.declared.span.Span.{Span}
 use Rattle.fl_spans.specs.Spans.{overlaps, AreSpans}
-use Rattle.fl_ranges.specs.declared.lock.Key.{Key}
-use Rattle.fl_ranges.specs.declared.lock.Kind.{Kind}
-use Rattle.fl_ranges.specs.declared.lock.Mark.{Mark}
-use Rattle.fl_ranges.specs.declared.run.Run.{Run}
-use Rattle.fl_ranges.specs.Marking.{class_number}
-use Rattle.fl_ranges.specs.Conflict.{kinds_conflict}
+use Rattle.fl_marks.specs.declared.lock.Key.{Key}
+use Rattle.fl_marks.specs.declared.lock.Kind.{Kind}
+use Rattle.fl_marks.specs.declared.lock.Mark.{Mark}
+use Rattle.fl_marks.specs.declared.run.Run.{Run}
+use Rattle.fl_marks.specs.Marking.{class_number}
+use Rattle.fl_marks.specs.Conflict.{kinds_conflict}
 use Rattle.fl_ranges.specs.Placing.{home}
-use Rattle.fl_ranges.specs.Blocker.{of_owner}
+use Rattle.fl_marks.specs.Blocker.{of_owner}
 use Rattle.fl_ranges.specs.Inside.RunList.{run_conflicts}
 use Rattle.fl_ranges.specs.Inside.LockRows.{LockRow, LockRows, run_of, runs_of, runs_in, table_runs, key_precedes}
 use Rattle.fl_ranges.specs.Inside.LockRows.{AreInOrder, AreLockRows}

@@ -11,10 +11,10 @@ use Rattle.std.specs.Option.{option_map}
 use Rattle.std.specs.Ordering.{eq_by_cmp}
 use Rattle.std.specs.FinMap.{get}
 use Rattle.std.proofs.lemmas.Bool.{or_left, or_right}
-use Rattle.fl_ranges.specs.declared.lock.Mark.{Mark}
-use Rattle.fl_ranges.specs.declared.run.Run.{Run}
-use Rattle.fl_ranges.specs.Marking.{Spot, spot_cmp, marking_of}
-use Rattle.fl_ranges.specs.Runs.{runs, IsStart}
+use Rattle.fl_marks.specs.declared.lock.Mark.{Mark}
+use Rattle.fl_marks.specs.declared.run.Run.{Run}
+use Rattle.fl_marks.specs.Marking.{Spot, spot_cmp, marking_of}
+use Rattle.fl_marks.specs.Runs.{runs, IsStart}
 use Rattle.fl_ranges.specs.Inside.RunList.{meant, has_spot, run_at, held_at, AreApart, IsWhole, AreRuns}
 use Rattle.fl_ranges.proofs.Markings.{get-marking_of}
 use Rattle.fl_ranges.proofs.Spots.{same_spot, spot_itself}

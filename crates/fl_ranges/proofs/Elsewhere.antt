@@ -4,11 +4,11 @@ use Rattle.std.proofs.Common.{sym, ◌∙◌, subst, arith}
 use Rattle.std.proofs.lemmas.Bool.Decides.{nat_tests}
 use Rattle.std.specs.Ordering.{eq_by_cmp}
 use Rattle.std.specs.FinMap.{get}
-use Rattle.fl_ranges.specs.declared.lock.Kind.{Kind}
-use Rattle.fl_ranges.specs.declared.lock.Key.{Key}
-use Rattle.fl_ranges.specs.Marking.{key_cmp, class_number, Spot, Marking, Stroke, covers, stroked}
-use Rattle.fl_ranges.specs.Conflict.{conflicts, IsConflict, SameElsewhere, SameOffNode}
-use Rattle.fl_ranges.specs.Runs.{without_node}
+use Rattle.fl_marks.specs.declared.lock.Kind.{Kind}
+use Rattle.fl_marks.specs.declared.lock.Key.{Key}
+use Rattle.fl_marks.specs.Marking.{key_cmp, class_number, Spot, Marking, Stroke, covers, stroked}
+use Rattle.fl_marks.specs.Conflict.{conflicts, IsConflict, SameElsewhere, SameOffNode}
+use Rattle.fl_marks.specs.Runs.{without_node}
 use Rattle.fl_ranges.specs.LockTable.{LockTable}
 use Rattle.fl_ranges.proofs.Markings.{get-stroked, get-without_node}
 use Rattle.fl_ranges.proofs.Spots.{same_key, within}

@@ -16,11 +16,11 @@ use Rattle.std.specs.Ordering.{nat_cmp, ordering_then, ordering_reverse, eq_by_c
 use Rattle.std.specs.Cmp.{IsTotalOrder, nat_cmp_total, tied_itself, eq_by_cmp_equiv, both_ways, Equal-is, first_so, second_so}
 use Rattle.std.specs.FinMap.{find, get, entries, entries_sorted, get-entries, from_entries, get-from_entries, is_sorted}
 use Rattle.std.specs.FinMap.Entries.{below_all, same_entries}
-use Rattle.fl_ranges.specs.declared.lock.Mark.{Mark}
-use Rattle.fl_ranges.specs.declared.run.Run.{Run}
-use Rattle.fl_ranges.specs.Marking.{class_number, Spot, spot_cmp, Marking, marking_of}
-use Rattle.fl_ranges.specs.Runs.{is_start}
-use Rattle.fl_ranges.specs.HeldRuns.{listing_cmp, starts_in_order, run_from, runs_in_order}
+use Rattle.fl_marks.specs.declared.lock.Mark.{Mark}
+use Rattle.fl_marks.specs.declared.run.Run.{Run}
+use Rattle.fl_marks.specs.Marking.{class_number, Spot, spot_cmp, Marking, marking_of}
+use Rattle.fl_marks.specs.Runs.{is_start}
+use Rattle.fl_marks.specs.HeldRuns.{listing_cmp, starts_in_order, run_from, runs_in_order}
 use Rattle.fl_ranges.specs.Inside.RunList.{meant, AreRuns}
 use Rattle.fl_ranges.proofs.Markings.{both_equal, same_class, spots_total}
 use Rattle.fl_ranges.proofs.Spots.{same_spot, spot_itself}

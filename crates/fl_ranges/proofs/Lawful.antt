@@ -6,13 +6,13 @@ use Rattle.std.proofs.lemmas.Bool.Decides.{nat_tests}
 use Rattle.std.specs.Ordering.{eq_by_cmp}
 use Rattle.std.specs.FinMap.{get, empty, get-empty}
 use Rattle.std.proofs.lemmas.Bool.{false_from_ne_true}
-use Rattle.fl_ranges.specs.declared.lock.Kind.{Kind}
-use Rattle.fl_ranges.specs.declared.lock.Kind.TheVariants.{Read, Write}
-use Rattle.fl_ranges.specs.declared.lock.Key.{Key}
-use Rattle.fl_ranges.specs.declared.lock.Mark.{Mark}
-use Rattle.fl_ranges.specs.Marking.{key_cmp, class_number, spot_cmp, Marking, Stroke, covers, stroked}
-use Rattle.fl_ranges.specs.Conflict.{are_of_two_owners, kinds_conflict, mark_conflicts, conflicts, IsLawful}
-use Rattle.fl_ranges.specs.Runs.{without_node}
+use Rattle.fl_marks.specs.declared.lock.Kind.{Kind}
+use Rattle.fl_marks.specs.declared.lock.Kind.TheVariants.{Read, Write}
+use Rattle.fl_marks.specs.declared.lock.Key.{Key}
+use Rattle.fl_marks.specs.declared.lock.Mark.{Mark}
+use Rattle.fl_marks.specs.Marking.{key_cmp, class_number, spot_cmp, Marking, Stroke, covers, stroked}
+use Rattle.fl_marks.specs.Conflict.{are_of_two_owners, kinds_conflict, mark_conflicts, conflicts, IsLawful}
+use Rattle.fl_marks.specs.Runs.{without_node}
 use Rattle.fl_ranges.specs.LockTable.{LockTable}
 use Rattle.fl_ranges.proofs.Markings.{spots_total, exact_spots, get-stroked, get-without_node}
 use Rattle.fl_ranges.proofs.Spots.{same_key, within}

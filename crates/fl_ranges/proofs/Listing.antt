@@ -6,7 +6,7 @@ use Rattle.std.proofs.lemmas.List.Concat.{flat_map-append}
 use Rattle.std.proofs.lemmas.Option.{none-some}
 use Rattle.std.specs.List.{flat_map}
 use Rattle.fl_spans.specs.Rows.{keys, runs_at}
-use Rattle.fl_ranges.specs.declared.lock.Key.{Key}
+use Rattle.fl_marks.specs.declared.lock.Key.{Key}
 use Rattle.fl_ranges.specs.Inside.LockRows.{LockRow}
 use Rattle.fl_ranges.proofs.Each.{drop_here}
 

@@ -10,13 +10,13 @@ use Rattle.std.specs.declared.cmp.Ordering.TheVariants.{Less, Equal, Greater}
 use Rattle.std.specs.Ordering.{nat_cmp, ordering_then, eq_by_cmp, is_eq}
 use Rattle.std.specs.Cmp.{IsTotalOrder, eq_by_cmp_equiv, nat_cmp_total}
 use Rattle.std.specs.FinMap.{get, retain_keys, get-insert, get-remove, get-retain_keys, get-empty}
-use Rattle.fl_ranges.specs.declared.lock.Class.{Class}
-use Rattle.fl_ranges.specs.declared.lock.Class.TheVariants.{Record, Flock}
-use Rattle.fl_ranges.specs.declared.lock.Key.{Key}
-use Rattle.fl_ranges.specs.declared.lock.Mark.{Mark}
-use Rattle.fl_ranges.specs.Runs.{without_node}
-use Rattle.fl_ranges.specs.Marking.{class_number, key_cmp, Spot, spot_cmp, Marking, Stroke, mark_spot, mark_bytes}
-use Rattle.fl_ranges.specs.Marking.{stroked, marking_of, covers, mark_at}
+use Rattle.fl_marks.specs.declared.lock.Class.{Class}
+use Rattle.fl_marks.specs.declared.lock.Class.TheVariants.{Record, Flock}
+use Rattle.fl_marks.specs.declared.lock.Key.{Key}
+use Rattle.fl_marks.specs.declared.lock.Mark.{Mark}
+use Rattle.fl_marks.specs.Runs.{without_node}
+use Rattle.fl_marks.specs.Marking.{class_number, key_cmp, Spot, spot_cmp, Marking, Stroke, mark_spot, mark_bytes}
+use Rattle.fl_marks.specs.Marking.{stroked, marking_of, covers, mark_at}
 
 -- ---- the orders
 

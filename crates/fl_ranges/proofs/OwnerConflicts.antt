@@ -6,12 +6,12 @@ use Rattle.std.proofs.lemmas.Bool.Decides.{nat_tests}
 use Rattle.std.specs.List.{list_any}
 use Rattle.std.proofs.lemmas.Bool.{false_from_ne_true, or_left, or_right, and_from, eqb-true, eq-eqb}
 use Rattle.std.specs.Cmp.{first_so, second_so}
-use Rattle.fl_ranges.specs.declared.lock.Key.{Key}
-use Rattle.fl_ranges.specs.declared.lock.Kind.{Kind}
-use Rattle.fl_ranges.specs.declared.run.Run.{Run}
-use Rattle.fl_ranges.specs.Marking.{class_number, Marking, marking_of}
-use Rattle.fl_ranges.specs.Conflict.{kinds_conflict, mark_conflicts_by, owner_conflicts, IsOwnerConflict, IsAfter}
-use Rattle.fl_ranges.specs.Conflict.{IsAtMost, IsLeastAfter}
+use Rattle.fl_marks.specs.declared.lock.Key.{Key}
+use Rattle.fl_marks.specs.declared.lock.Kind.{Kind}
+use Rattle.fl_marks.specs.declared.run.Run.{Run}
+use Rattle.fl_marks.specs.Marking.{class_number, Marking, marking_of}
+use Rattle.fl_marks.specs.Conflict.{kinds_conflict, mark_conflicts_by, owner_conflicts, IsOwnerConflict, IsAfter}
+use Rattle.fl_marks.specs.Conflict.{IsAtMost, IsLeastAfter}
 use Rattle.fl_ranges.specs.Inside.RunList.{meant, run_conflicts, AreApart}
 use Rattle.fl_ranges.specs.Inside.Owners.{is_after, is_less, least_with, least_from}
 use Rattle.fl_ranges.proofs.Markings.{spots_total, exact_spots, same_class}

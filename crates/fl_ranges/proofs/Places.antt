@@ -10,11 +10,11 @@ use Rattle.std.specs.Option.{option_map}
 use Rattle.std.specs.FinMap.{same_map, retain_keys}
 use Rattle.fl_spans.specs.declared.span.Span.{Span}
 use Rattle.fl_spans.specs.Rows.{row_lists, rows, limit_of, run_count}
-use Rattle.fl_ranges.specs.declared.lock.Key.{Key}
-use Rattle.fl_ranges.specs.declared.lock.Mark.{Mark}
-use Rattle.fl_ranges.specs.declared.run.Run.{Run}
-use Rattle.fl_ranges.specs.Marking.{Spot, marking_of}
-use Rattle.fl_ranges.specs.Runs.{runs}
+use Rattle.fl_marks.specs.declared.lock.Key.{Key}
+use Rattle.fl_marks.specs.declared.lock.Mark.{Mark}
+use Rattle.fl_marks.specs.declared.run.Run.{Run}
+use Rattle.fl_marks.specs.Marking.{Spot, marking_of}
+use Rattle.fl_marks.specs.Runs.{runs}
 use Rattle.fl_ranges.specs.LockTable.{LockTable}
 use Rattle.fl_ranges.specs.Placing.{home, on_chain}
 use Rattle.fl_ranges.specs.Inside.RunList.{meant, run_at, held_at, IsWhole, AreRuns}

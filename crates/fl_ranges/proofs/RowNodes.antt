@@ -12,10 +12,10 @@ use Rattle.fl_arena.specs.declared.cursors.Cursor.{Cursor}
 use Rattle.fl_spans.specs.declared.span.Span.{Span}
 use Rattle.fl_spans.specs.Spans.{mark_at}
 use Rattle.fl_spans.specs.Rows.{row_lists, rows, keys, limit_of, row_cursor, HasRoomOf, IsRow}
-use Rattle.fl_ranges.specs.declared.lock.Key.{Key}
-use Rattle.fl_ranges.specs.declared.lock.Mark.{Mark}
-use Rattle.fl_ranges.specs.Marking.{class_number, key_cmp, Spot, Marking, stroked}
-use Rattle.fl_ranges.specs.Runs.{without_node}
+use Rattle.fl_marks.specs.declared.lock.Key.{Key}
+use Rattle.fl_marks.specs.declared.lock.Mark.{Mark}
+use Rattle.fl_marks.specs.Marking.{class_number, key_cmp, Spot, Marking, stroked}
+use Rattle.fl_marks.specs.Runs.{without_node}
 use Rattle.fl_ranges.specs.Placing.{home}
 use Rattle.fl_ranges.specs.Inside.LockRows.{LockRow, LockRows, key_precedes, AreInOrder, row_marks, row_index, has_row}
 use Rattle.fl_ranges.specs.Inside.LockRows.{spans_of, IsLockTable}

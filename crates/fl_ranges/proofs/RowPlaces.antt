@@ -7,9 +7,9 @@ use Rattle.std.specs.List.{insert, remove, AllByRecursion}
 use Rattle.std.specs.Ordering.{eq_by_cmp}
 use Rattle.fl_spans.specs.declared.span.Span.{Span}
 use Rattle.fl_spans.specs.Rows.{keys, runs_at, with_runs}
-use Rattle.fl_ranges.specs.declared.lock.Key.{Key}
-use Rattle.fl_ranges.specs.declared.lock.Mark.{Mark}
-use Rattle.fl_ranges.specs.Marking.{key_cmp}
+use Rattle.fl_marks.specs.declared.lock.Key.{Key}
+use Rattle.fl_marks.specs.declared.lock.Mark.{Mark}
+use Rattle.fl_marks.specs.Marking.{key_cmp}
 use Rattle.fl_ranges.specs.Inside.LockRows.{LockRow, key_precedes, AreInOrder, spans_of, row_index, has_row, row_before}
 use Rattle.fl_ranges.specs.Inside.LockRows.{given_spans}
 use Rattle.fl_ranges.proofs.Spots.{same_key}

@@ -12,11 +12,11 @@ use Rattle.std.specs.Cmp.{IsTotalOrder, eq_by_cmp_equiv, nat_cmp_total, tied_its
 use Rattle.std.specs.FinMap.{get}
 use Rattle.fl_spans.specs.declared.span.Span.{Span}
 use Rattle.fl_spans.specs.Spans.{mark_at, IsSpan, AreSpans}
-use Rattle.fl_ranges.specs.declared.lock.Key.{Key}
-use Rattle.fl_ranges.specs.declared.lock.Mark.{Mark}
-use Rattle.fl_ranges.specs.declared.run.Run.{Run}
-use Rattle.fl_ranges.specs.Marking.{class_number, key_cmp, Spot, marking_of}
-use Rattle.fl_ranges.specs.Runs.{runs}
+use Rattle.fl_marks.specs.declared.lock.Key.{Key}
+use Rattle.fl_marks.specs.declared.lock.Mark.{Mark}
+use Rattle.fl_marks.specs.declared.run.Run.{Run}
+use Rattle.fl_marks.specs.Marking.{class_number, key_cmp, Spot, marking_of}
+use Rattle.fl_marks.specs.Runs.{runs}
 use Rattle.fl_ranges.specs.Placing.{home}
 use Rattle.fl_ranges.specs.Inside.RunList.{meant, has_spot, run_at, held_at, AreApart, IsWhole, AreRuns}
 use Rattle.fl_ranges.specs.Inside.LockRows.{LockRow, run_of, runs_of, runs_in, place_cmp, key_precedes, AreInOrder}

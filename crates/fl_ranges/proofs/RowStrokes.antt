@@ -13,10 +13,10 @@ use Rattle.fl_spans.specs.declared.span.Span.{Span}
 use Rattle.fl_spans.specs.Spans.{mark_at, AreSpans}
 use Rattle.fl_spans.specs.Row.{spans_at, with_spans}
 use Rattle.fl_spans.specs.Rows.{row_lists, rows, limit_of, run_count, runs_at, with_runs, row_cursor, HasRoomOf}
-use Rattle.fl_ranges.specs.declared.lock.Key.{Key}
-use Rattle.fl_ranges.specs.declared.lock.Mark.{Mark}
-use Rattle.fl_ranges.specs.Marking.{key_cmp, stroked}
-use Rattle.fl_ranges.specs.Runs.{runs}
+use Rattle.fl_marks.specs.declared.lock.Key.{Key}
+use Rattle.fl_marks.specs.declared.lock.Mark.{Mark}
+use Rattle.fl_marks.specs.Marking.{key_cmp, stroked}
+use Rattle.fl_marks.specs.Runs.{runs}
 use Rattle.fl_ranges.specs.Placing.{home}
 use Rattle.fl_ranges.specs.Inside.LockRows.{LockRow, LockRows, row_marks, row_index, has_row, spans_of, given_spans}
 use Rattle.fl_ranges.specs.Inside.LockRows.{IsLockTable}

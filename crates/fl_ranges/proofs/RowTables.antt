@@ -13,10 +13,10 @@ use Rattle.std.specs.FinMap.{get, same_map}
 use Rattle.fl_spans.specs.declared.span.Span.{Span}
 use Rattle.fl_spans.specs.Spans.{mark_at, AreSpans}
 use Rattle.fl_spans.specs.Rows.{row_lists, rows, run_count, HasRoomOf}
-use Rattle.fl_ranges.specs.declared.lock.Key.{Key}
-use Rattle.fl_ranges.specs.declared.lock.Mark.{Mark}
-use Rattle.fl_ranges.specs.Marking.{key_cmp, Spot, Marking, stroked, marking_of}
-use Rattle.fl_ranges.specs.Runs.{runs}
+use Rattle.fl_marks.specs.declared.lock.Key.{Key}
+use Rattle.fl_marks.specs.declared.lock.Mark.{Mark}
+use Rattle.fl_marks.specs.Marking.{key_cmp, Spot, Marking, stroked, marking_of}
+use Rattle.fl_marks.specs.Runs.{runs}
 use Rattle.fl_ranges.specs.Placing.{home}
 use Rattle.fl_ranges.specs.Inside.RunList.{meant}
 use Rattle.fl_ranges.specs.Inside.LockRows.{LockRow, LockRows, run_of, runs_of, runs_in, table_runs, row_marks}

@@ -8,10 +8,10 @@ use Rattle.std.specs.Option.{option_map, option_or}
 use Rattle.std.specs.Ordering.{eq_by_cmp}
 use Rattle.fl_spans.specs.declared.span.Span.{Span}
 use Rattle.fl_spans.specs.Spans.{overlaps, mark_at, IsSpan, AreSpans}
-use Rattle.fl_ranges.specs.declared.lock.Key.{Key}
-use Rattle.fl_ranges.specs.declared.lock.Mark.{Mark}
-use Rattle.fl_ranges.specs.declared.run.Run.{Run}
-use Rattle.fl_ranges.specs.Marking.{key_cmp, Spot}
+use Rattle.fl_marks.specs.declared.lock.Key.{Key}
+use Rattle.fl_marks.specs.declared.lock.Mark.{Mark}
+use Rattle.fl_marks.specs.declared.run.Run.{Run}
+use Rattle.fl_marks.specs.Marking.{key_cmp, Spot}
 use Rattle.fl_ranges.specs.Inside.RunList.{has_spot, run_at, held_at, AreApart}
 use Rattle.fl_ranges.specs.Inside.LockRows.{run_of}
 use Rattle.fl_ranges.proofs.RunLists.{at_spot}

@@ -3,12 +3,12 @@ use Rattle.std.proofs.Common.{◌≡◌, ◌≢◌, ℕ, Bool, true, false, cond
 use Rattle.std.specs.Ordering.{eq_by_cmp}
 use Rattle.std.specs.FinMap.{get}
 use Rattle.std.proofs.lemmas.Bool.{false_from_ne_true}
-use Rattle.fl_ranges.specs.declared.lock.Key.{Key}
-use Rattle.fl_ranges.specs.declared.lock.Kind.{Kind}
-use Rattle.fl_ranges.specs.declared.lock.Mark.{Mark}
-use Rattle.fl_ranges.specs.Marking.{key_cmp, Marking, Stroke, stroked, covers}
-use Rattle.fl_ranges.specs.Conflict.{owner_conflicts}
-use Rattle.fl_ranges.specs.Runs.{without_node}
+use Rattle.fl_marks.specs.declared.lock.Key.{Key}
+use Rattle.fl_marks.specs.declared.lock.Kind.{Kind}
+use Rattle.fl_marks.specs.declared.lock.Mark.{Mark}
+use Rattle.fl_marks.specs.Marking.{key_cmp, Marking, Stroke, stroked, covers}
+use Rattle.fl_marks.specs.Conflict.{owner_conflicts}
+use Rattle.fl_marks.specs.Runs.{without_node}
 use Rattle.fl_ranges.proofs.Elsewhere.{same_test}
 use Rattle.fl_ranges.proofs.Markings.{get-stroked, get-without_node}
 use Rattle.fl_ranges.proofs.OwnerConflicts.{owner_conflict_words}

@@ -4,8 +4,8 @@ use Rattle.std.proofs.lemmas.Bool.Decides.{nat_tests}
 use Rattle.std.proofs.lemmas.Nat.{mod_below}
 use Rattle.std.specs.Ordering.{eq_by_cmp, is_eq}
 use Rattle.std.specs.Cmp.{tied_itself, Equal-is}
-use Rattle.fl_ranges.specs.declared.lock.Key.{Key}
-use Rattle.fl_ranges.specs.Marking.{key_cmp, Spot, spot_cmp}
+use Rattle.fl_marks.specs.declared.lock.Key.{Key}
+use Rattle.fl_marks.specs.Marking.{key_cmp, Spot, spot_cmp}
 use Rattle.fl_ranges.specs.Placing.{home}
 use Rattle.fl_ranges.proofs.Markings.{exact_keys, keys_total, exact_spots, spots_total}
 

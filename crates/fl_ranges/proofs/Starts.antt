@@ -16,11 +16,11 @@ use Rattle.std.specs.FinMap.{get, entries, entries_sorted, is_sorted}
 use Rattle.std.specs.FinMap.Entries.{below_all}
 use Rattle.std.proofs.lemmas.Bool.{and_from}
 use Rattle.std.proofs.Math.Bool.{and-true, and-false}
-use Rattle.fl_ranges.specs.declared.lock.Kind.{Kind}
-use Rattle.fl_ranges.specs.declared.lock.Kind.TheVariants.{Read, Write}
-use Rattle.fl_ranges.specs.declared.lock.Mark.{Mark}
-use Rattle.fl_ranges.specs.Marking.{Spot, spot_cmp, Marking}
-use Rattle.fl_ranges.specs.Runs.{kind_number, is_same_mark, is_mark, is_start, runs, IsStart}
+use Rattle.fl_marks.specs.declared.lock.Kind.{Kind}
+use Rattle.fl_marks.specs.declared.lock.Kind.TheVariants.{Read, Write}
+use Rattle.fl_marks.specs.declared.lock.Mark.{Mark}
+use Rattle.fl_marks.specs.Marking.{Spot, spot_cmp, Marking}
+use Rattle.fl_marks.specs.Runs.{kind_number, is_same_mark, is_mark, is_start, runs, IsStart}
 use Rattle.fl_ranges.proofs.Markings.{spots_total, exact_spots}
 use Rattle.fl_ranges.proofs.Spots.{same_spot, spot_itself}
 use Rattle.fl_ranges.proofs.Entries.{any_entry, entry_passes, is_Less, truth, less_differs}

@@ -6,9 +6,9 @@ use Rattle.std.proofs.lemmas.Simd.{map-map}
 use Rattle.std.specs.List.{flat_map}
 use Rattle.fl_spans.specs.Rows.{row_lists, chain_count, limit_of, run_count}
 use Rattle.std.specs.FinMap.{empty}
-use Rattle.fl_ranges.specs.declared.run.Run.{Run}
-use Rattle.fl_ranges.specs.Marking.{Marking, marking_of}
-use Rattle.fl_ranges.specs.Runs.{runs}
+use Rattle.fl_marks.specs.declared.run.Run.{Run}
+use Rattle.fl_marks.specs.Marking.{Marking, marking_of}
+use Rattle.fl_marks.specs.Runs.{runs}
 use Rattle.fl_ranges.specs.LockTable.{LockTable}
 use Rattle.fl_ranges.specs.Layout.{strokes_of, marking_in}
 use Rattle.fl_ranges.specs.Inside.RunList.{meant, AreRuns}

@@ -3,9 +3,9 @@ use Rattle.std.specs.Prelude.{List, Some, map}
 use Rattle.std.specs.List.{flat_map}
 use Rattle.fl_spans.specs.declared.span.Span.{Span}
 use Rattle.fl_spans.specs.Rows.{Row, RowChains, row_lists}
-use Rattle.fl_ranges.specs.declared.lock.Key.{Key}
-use Rattle.fl_ranges.specs.declared.lock.Mark.{Mark}
-use Rattle.fl_ranges.specs.Marking.{Marking, Stroke, marking_of}
+use Rattle.fl_marks.specs.declared.lock.Key.{Key}
+use Rattle.fl_marks.specs.declared.lock.Mark.{Mark}
+use Rattle.fl_marks.specs.Marking.{Marking, Stroke, marking_of}
 
 -- the strokes that would set the marks of a row
 abbrev pub strokes_of : Row Key (Span Mark) → List Stroke

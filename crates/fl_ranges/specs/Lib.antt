@@ -1,10 +1,4 @@
-pub mod Marking
-pub mod Blocker
-pub mod Conflict
 pub mod Codes
-pub mod Runs
-pub mod HeldRuns
-pub mod Change
 pub mod LockTable
 pub mod Placing
 pub mod Layout

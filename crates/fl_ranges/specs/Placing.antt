@@ -1,7 +1,7 @@
 -- On which chain of slots a lock stands.
 use Rattle.std.specs.Prelude.{ℕ, ◌%◌, ◌==◌}
 use Rattle.std.specs.FinMap.{retain_keys}
-use Rattle.fl_ranges.specs.Marking.{Marking}
+use Rattle.fl_marks.specs.Marking.{Marking}
 
 -- of so many chains, the one of a node's runs
 abbrev pub home : ℕ → ℕ → ℕ

@@ -5,14 +5,12 @@ ghost use Rattle.fl_ranges.specs.Inside.LockRows.{table_runs, AreLockRows};
 ghost use Rattle.fl_ranges.specs.Inside.Nearest.{nearest_from, lock_of};
 
 use crate::contenders::{conflicting_span, first_of_class, owner_at};
-use crate::held::Held;
-use crate::lock::{Key, Kind, Mark, Range};
-use crate::run::Run;
 use crate::table::Table;
+use fl_marks::{Held, Key, Kind, Mark, Range, Run};
 use fl_spans::{Rows, Span};
 
 impl Table {
-    ghost use Rattle.fl_ranges.specs.Blocker.{blocker};
+    ghost use Rattle.fl_marks.specs.Blocker.{blocker};
 
     /// The lock that F_GETLK names (POSIX.1-2017 `fcntl`): at the least byte of the range at which a lock of
     /// another owner conflicts with one of this kind, that of the least such owner, on all the bytes around that one

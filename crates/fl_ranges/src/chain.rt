@@ -3,7 +3,7 @@ ghost use Rattle.std.specs.Prelude.{◌≡◌, ◌≤◌, ◌<◌};
 ghost use Rattle.fl_spans.specs.Rows.{chain_count};
 ghost use Rattle.fl_ranges.specs.Placing.{home};
 
-use crate::lock::{Key, Mark};
+use fl_marks::{Key, Mark};
 use fl_spans::{Rows, Span};
 
 // The chain of a node's rows.

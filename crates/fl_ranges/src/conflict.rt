@@ -6,7 +6,7 @@ ghost use Rattle.fl_ranges.specs.Inside.RunList.{run_conflicts};
 ghost use Rattle.fl_ranges.specs.Inside.LockRows.{table_runs, AreLockRows};
 
 use crate::contenders::{conflicting_span, first_of_class, owner_at};
-use crate::lock::{Key, Kind, Mark, Range};
+use fl_marks::{Key, Kind, Mark, Range};
 use fl_spans::{Rows, Span};
 
 // Whether some lock conflicts with one of this kind, by this key, on the range.

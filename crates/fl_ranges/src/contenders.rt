@@ -4,12 +4,12 @@ ghost use Rattle.std.specs.List.{find};
 ghost use Rattle.fl_spans.specs.Rows.{rows, keys, chain_count, IsRow};
 ghost use Rattle.fl_spans.specs.Row.{spans_at};
 ghost use Rattle.fl_spans.specs.Spans.{AreSpans};
-ghost use Rattle.fl_ranges.specs.Conflict.{kinds_conflict};
+ghost use Rattle.fl_marks.specs.Conflict.{kinds_conflict};
 ghost use Rattle.fl_ranges.specs.Placing.{home};
 ghost use Rattle.fl_ranges.specs.Inside.Contenders.{are_kin, is_earlier, rows_from, kin_owner, span_conflicts};
 
 use crate::chain::home;
-use crate::lock::{Key, Kind, Mark, Range};
+use fl_marks::{Key, Kind, Mark, Range};
 use fl_spans::{Cursor, Rows, Span, find};
 
 // Whether two keys are of one class and node.

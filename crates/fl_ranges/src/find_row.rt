@@ -2,12 +2,12 @@
 ghost use Rattle.std.specs.Prelude.{◌≡◌, ◌+◌, true, IsSome, drop};
 ghost use Rattle.std.specs.Ordering.{eq_by_cmp};
 ghost use Rattle.fl_spans.specs.Rows.{rows, chain_count, limit_of, row_cursor, IsRow};
-ghost use Rattle.fl_ranges.specs.Marking.{key_cmp};
+ghost use Rattle.fl_marks.specs.Marking.{key_cmp};
 ghost use Rattle.fl_ranges.specs.Placing.{home};
 ghost use Rattle.fl_ranges.specs.Inside.LockRows.{key_precedes, row_index, has_row, IsLockTable};
 
 use crate::chain::home;
-use crate::lock::{Key, Mark};
+use fl_marks::{Key, Mark};
 use fl_spans::{Cursor, Rows, Span};
 
 // Whether the row of a key stands before that of another one: by node, then class, then owner.

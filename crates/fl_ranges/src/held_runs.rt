@@ -2,18 +2,17 @@
 ghost use Rattle.std.specs.Prelude.{◌≡◌, ◌++◌, ◌<◌, IfOk, OnOk, IsSome, map};
 ghost use Rattle.fl_spans.specs.Rows.{rows, chain_count, IsRow};
 ghost use Rattle.fl_spans.specs.Row.{spans_at};
-ghost use Rattle.fl_ranges.specs.HeldRuns.{listing_cmp};
+ghost use Rattle.fl_marks.specs.HeldRuns.{listing_cmp};
 ghost use Rattle.fl_ranges.specs.Inside.LockRows.{run_of, runs_in, table_runs};
 
-use crate::lock::{Key, Mark};
-use crate::run::Run;
 use crate::table::Table;
+use fl_marks::{Key, Mark, Run};
 use fl_spans::{Cursor, Rows, Span};
 use std::alloc::{AllocError, Global};
 use std::cmp::Ordering;
 
 impl Table {
-    ghost use Rattle.fl_ranges.specs.HeldRuns.{runs_in_order, ConflictAsMarks};
+    ghost use Rattle.fl_marks.specs.HeldRuns.{runs_in_order, ConflictAsMarks};
 
     /// The locks that are held, as runs of bytes: by node, then record locks before whole-file locks, then by first
     /// byte, then by owner. It fails only if memory runs out.

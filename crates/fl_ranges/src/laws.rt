@@ -5,15 +5,15 @@ ghost use Rattle.std.specs.Prelude.{if◌then◌else◌};
 ghost use Rattle.std.specs.List.{Contains, IsDistinct};
 ghost use Rattle.std.specs.Ordering.{eq_by_cmp};
 ghost use Rattle.std.specs.FinMap.{empty, get};
-ghost use Rattle.fl_ranges.specs.declared.lock.Key.{Key as Holder};
-ghost use Rattle.fl_ranges.specs.declared.lock.Kind.{Kind as Sharing};
-ghost use Rattle.fl_ranges.specs.declared.lock.Mark.{Mark as Sort};
-ghost use Rattle.fl_ranges.specs.declared.held.Held.{Held as Lock};
-ghost use Rattle.fl_ranges.specs.Marking.{Spot, spot_cmp, Marking, Stroke, stroked, marking_of, mark_at};
-ghost use Rattle.fl_ranges.specs.Conflict.{conflicts, owner_conflicts, IsConflict, IsOwnerConflict, IsLawful};
-ghost use Rattle.fl_ranges.specs.Runs.{runs, IsStart, without_node};
-ghost use Rattle.fl_ranges.specs.Change.{Change, marking_after, last_said};
-ghost use Rattle.fl_ranges.specs.Blocker.{blocker, IsBlocker};
+ghost use Rattle.fl_marks.specs.declared.lock.Key.{Key as Holder};
+ghost use Rattle.fl_marks.specs.declared.lock.Kind.{Kind as Sharing};
+ghost use Rattle.fl_marks.specs.declared.lock.Mark.{Mark as Sort};
+ghost use Rattle.fl_marks.specs.declared.held.Held.{Held as Lock};
+ghost use Rattle.fl_marks.specs.Marking.{Spot, spot_cmp, Marking, Stroke, stroked, marking_of, mark_at};
+ghost use Rattle.fl_marks.specs.Conflict.{conflicts, owner_conflicts, IsConflict, IsOwnerConflict, IsLawful};
+ghost use Rattle.fl_marks.specs.Runs.{runs, IsStart, without_node};
+ghost use Rattle.fl_marks.specs.Change.{Change, marking_after, last_said};
+ghost use Rattle.fl_marks.specs.Blocker.{blocker, IsBlocker};
 
 /// After strokes a byte of a key has what the last stroke says that covers it, and no mark if none does.
 pub fn last_stroke_counts()

@@ -1,4 +1,4 @@
-//! Locks as marks on bytes.
+//! A table of locks, which keeps a marking as runs of bytes; and `laws`, which say in words what `fl_marks` defines.
 //!
 //! Each key that has marks has one row of runs, on its node's chain. The runs of a row are in order, apart, and as
 //! long as they can be. A run's slot takes 48 bytes, and a key's 56. A change is refused for the runs that it would
@@ -15,18 +15,12 @@ mod chain;
 mod conflict;
 mod contenders;
 mod find_row;
-mod held;
 mod held_runs;
 pub mod laws;
-mod lock;
 mod owners;
 mod row_change;
-mod run;
 mod table;
 
 pub use fl_arena::Place;
 pub use fl_spans::{Rows, Span};
-pub use held::Held;
-pub use lock::{Class, Key, Kind, LAST_BYTE, Mark, Range};
-pub use run::Run;
 pub use table::{NoRoom, Table};

@@ -5,19 +5,19 @@ ghost use Rattle.std.specs.List.Sorted.{IsNonDecreasing};
 ghost use Rattle.fl_spans.specs.Rows.{rows, chain_count, IsRow};
 ghost use Rattle.fl_spans.specs.Row.{spans_at};
 ghost use Rattle.fl_spans.specs.Spans.{AreSpans};
-ghost use Rattle.fl_ranges.specs.Conflict.{AreFound};
+ghost use Rattle.fl_marks.specs.Conflict.{AreFound};
 ghost use Rattle.fl_ranges.specs.Inside.LockRows.{table_runs, AreLockRows};
 ghost use Rattle.fl_ranges.specs.Inside.Owners.{is_after, least_from, run_conflicts_by};
 ghost use Rattle.fl_ranges.specs.Inside.Contenders.{span_conflicts};
 
 use crate::asked::{all_set, set_all, skip_less, skip_same};
 use crate::contenders::{conflicting_span, first_of_class, owner_at};
-use crate::lock::{Key, Kind, Mark, Range};
 use crate::table::Table;
+use fl_marks::{Key, Kind, Mark, Range};
 use fl_spans::{Cursor, Rows, Span};
 
 impl Table {
-    ghost use Rattle.fl_ranges.specs.Conflict.{owner_conflicts, IsLeastAfter};
+    ghost use Rattle.fl_marks.specs.Conflict.{owner_conflicts, IsLeastAfter};
 
     /// The least owner with a lock that conflicts with one of this kind, of those owners that are greater than the
     /// one that is given; of all if none is given. None if no such owner has one.

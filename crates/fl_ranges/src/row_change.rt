@@ -1,13 +1,13 @@
 //! Changes of locks in rows.
 ghost use Rattle.std.specs.Prelude.{◌≡◌, ◌<◌, ◌↔◌, None, IsErr, OnOk, OnErr};
 ghost use Rattle.fl_spans.specs.Rows.{chain_count, limit_of};
-ghost use Rattle.fl_ranges.specs.Marking.{stroke_on, stroked};
-ghost use Rattle.fl_ranges.specs.Runs.{runs, without_node};
+ghost use Rattle.fl_marks.specs.Marking.{stroke_on, stroked};
+ghost use Rattle.fl_marks.specs.Runs.{runs, without_node};
 ghost use Rattle.fl_ranges.specs.Inside.LockRows.{row_marks, IsLockTable};
 
 use crate::chain::home;
 use crate::find_row::find_row;
-use crate::lock::{Key, LAST_BYTE, Mark, Range};
+use fl_marks::{Key, LAST_BYTE, Mark, Range};
 use fl_spans::{Full, Rows, Span};
 
 // The bytes of the range get the mark, or lose theirs. A refusal changes nothing.

@@ -5,9 +5,9 @@ ghost use Rattle.std.specs.List.{AllByRecursion};
 ghost use Rattle.fl_spans.specs.Rows.{rows, limit_of, chain_count, AreLinked};
 
 use crate::conflict::some_conflicts;
-use crate::lock::{Class, Key, Kind, LAST_BYTE, Mark, Range};
 use crate::row_change;
 use fl_arena::Place;
+use fl_marks::{Class, Key, Kind, LAST_BYTE, Mark, Range};
 use fl_spans::{Full, Rows, Span};
 use std::alloc::{AllocError, Global};
 use std::marker::Model;
@@ -56,9 +56,9 @@ impl Drop for Table {
 }
 
 impl Table {
-    ghost use Rattle.fl_ranges.specs.Marking.{stroke_on, stroked};
-    ghost use Rattle.fl_ranges.specs.Conflict.{conflicts, IsLawful, SameElsewhere, SameOffNode};
-    ghost use Rattle.fl_ranges.specs.Runs.{runs, without_node};
+    ghost use Rattle.fl_marks.specs.Marking.{stroke_on, stroked};
+    ghost use Rattle.fl_marks.specs.Conflict.{conflicts, IsLawful, SameElsewhere, SameOffNode};
+    ghost use Rattle.fl_marks.specs.Runs.{runs, without_node};
     ghost use Rattle.fl_ranges.specs.Placing.{home, on_chain};
     ghost use Rattle.fl_ranges.specs.Layout.{marking_in};
 

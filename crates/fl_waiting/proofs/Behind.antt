@@ -10,7 +10,7 @@ use Rattle.fl_waiting.specs.declared.parked.Request.{Request}
 use Rattle.fl_waiting.specs.Inside.Claims.{ruled}
 use Rattle.fl_waiting.specs.declared.rules.Rules.{Rules}
 use Rattle.fl_waiting.proofs.Claims.{keep}
-use Rattle.fl_ranges.specs.declared.lock.Mark.{Mark}
+use Rattle.fl_marks.specs.declared.lock.Mark.{Mark}
 
 -- ---- tests that answer alike take the same one
 

@@ -1,5 +1,5 @@
 -- Locks that requests want, copied one after another.
-use Rattle.std.proofs.Common.{◌≡◌, ◌∙◌, ℕ, ◌+◌, ◌<◌, Bool, true, false, cond, Option, Some, None, option_map, List, []}
+use Rattle.std.proofs.Common.{◌≡◌, ◌∙◌, ℕ, suc, ◌+◌, ◌<◌, Bool, true, false, cond, Option, Some, None, option_map, List, []}
 use Rattle.std.proofs.Common.{◌∷◌, ◌++◌, length, map, take, get_or, slice_get, append-nil, refl, sym, ap, subst, arith}
 use Rattle.std.proofs.lemmas.Option.{slice_get-map}
 use Rattle.std.proofs.lemmas.List.{take_more, map-append}
@@ -10,18 +10,18 @@ use Rattle.fl_arena.specs.Cursors.{cursor_at}
 use Rattle.fl_arena.specs.declared.cursors.Cursor.{Cursor}
 use Rattle.fl_waiting.specs.Waiting.{Wish, wish_of, wishes}
 use Rattle.fl_waiting.specs.Inside.Claims.{request_in, requests_of}
-use Rattle.fl_waiting.specs.Inside.Searching.{meant, one_of, numbered, AreNumbered}
-use Rattle.fl_waiting.specs.declared.circle.Wanted.{Wanted}
+use Rattle.fl_waiting.specs.Inside.Copies.{one_of, numbered}
+use Rattle.fl_waiting.specs.Wanted.{meant, AreNumbered}
+use Rattle.fl_waiting.specs.declared.wanted.Wanted.{Wanted}
 use Rattle.fl_waiting.specs.LockRequest.{is_flock, key_of, stroke_of}
 use Rattle.fl_waiting.specs.declared.claim.Claim.{Claim}
 use Rattle.fl_waiting.specs.declared.parked.Request.{Request}
-use Rattle.fl_waiting.proofs.Among.{numbered_more}
 use Rattle.fl_waiting.proofs.Chain.{found_at, nothing_left}
 use Rattle.fl_waiting.proofs.Claims.{stands_at}
-use Rattle.fl_ranges.specs.Marking.{Stroke, stroke_on}
-use Rattle.fl_ranges.specs.declared.lock.Class.{Class}
-use Rattle.fl_ranges.specs.declared.lock.Class.TheVariants.{Record, Flock}
-use Rattle.fl_ranges.specs.declared.lock.Mark.{Mark}
+use Rattle.fl_marks.specs.Marking.{Stroke, stroke_on}
+use Rattle.fl_marks.specs.declared.lock.Class.{Class}
+use Rattle.fl_marks.specs.declared.lock.Class.TheVariants.{Record, Flock}
+use Rattle.fl_marks.specs.declared.lock.Mark.{Mark}
 
 one_wish : (n : ℕ) (w : Option Wanted) (r : Request) → option_map meant w ≡ wish_of r
     → map meant (one_of (option_map (numbered n) w)) ≡ filter_map wish_of (r ∷ [])
@@ -36,6 +36,10 @@ copied_more room new count next w parked i r so_far put wish there at =
     ap (map meant) put ∙ map-append meant (take count room) (one_of (option_map (numbered count) w)) ∙ (λ j. so_far j ++ one_wish count w r wish j)
     ∙ sym (filter_map-append wish_of (take i parked) (r ∷ []))
     ∙ ap wishes (ap (λ x. take i parked ++ x ∷ []) (sym at) ∙ sym (take_more parked i r there))
+
+numbered_more : (n : ℕ) (ws : List Wanted) (w : Wanted) → AreNumbered n ws → w.place ≡ n + length ws → AreNumbered n (ws ++ w ∷ [])
+numbered_more n [] w all is = (omega (arith, is), tt)
+numbered_more n (v ∷ ws) w all is = (all.0, numbered_more (suc n) ws w all.1 (omega (arith, is)))
 
 -- and numbered
 pub numbered_on : (room new : List Wanted) (count next : ℕ) (w : Option Wanted) → AreNumbered 0 (take count room) → length (take count room) ≡ count

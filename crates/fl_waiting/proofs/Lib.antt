@@ -1,11 +1,7 @@
-pub mod Among
 pub mod Behind
 pub mod Chain
-pub mod Circles
 pub mod Claims
 pub mod Copies
 pub mod Counts
 pub mod First
-pub mod Searches
 pub mod Waiters
-pub mod Wishes

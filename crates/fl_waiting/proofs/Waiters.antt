@@ -3,7 +3,7 @@ use Rattle.std.proofs.Common.{◌≡◌, ℕ, zero, suc, ◌<◌, Bool, true, fa
 use Rattle.std.proofs.Common.{get_or, refl, sym, ap, ◌∙◌, arith}
 use Rattle.std.proofs.lemmas.Bool.Decides.{nat_tests}
 use Rattle.std.specs.List.{list_any}
-use Rattle.fl_ranges.specs.Marking.{Marking}
+use Rattle.fl_marks.specs.Marking.{Marking}
 use Rattle.fl_waiting.specs.Circle.{Waiter, Waits, waiter_of, waiters, waiters_behind, blocks}
 use Rattle.fl_waiting.specs.Waiting.{Wish, owner_of, is_waiting, wishes}
 use Rattle.fl_waiting.specs.declared.parked.Request.{Request}

@@ -1,10 +1,10 @@
 -- Circles of waiting owners (POSIX.1-2017 `fcntl`, EDEADLK): the next one blocks each.
 use Rattle.std.specs.Prelude.{◌≡◌, ℕ, Bool, true, false, ◌&&◌, ◌||◌, Option, Some, None, List, [], ◌∷◌, ◌++◌}
 use Rattle.std.specs.List.{Contains}
-use Rattle.fl_ranges.specs.declared.lock.Class.{Class}
-use Rattle.fl_ranges.specs.declared.lock.Class.TheVariants.{Record, Flock}
-use Rattle.fl_ranges.specs.declared.lock.Mark.{Mark}
-use Rattle.fl_ranges.specs.Marking.{Marking, Stroke}
+use Rattle.fl_marks.specs.declared.lock.Class.{Class}
+use Rattle.fl_marks.specs.declared.lock.Class.TheVariants.{Record, Flock}
+use Rattle.fl_marks.specs.declared.lock.Mark.{Mark}
+use Rattle.fl_marks.specs.Marking.{Marking, Stroke}
 use Rattle.fl_waiting.specs.Waiting.{Wish, owner_of, wish_on, wish_of, wishes, is_blocked_by, only}
 use Rattle.fl_waiting.specs.declared.parked.Request.{Request}
 use Rattle.fl_waiting.specs.declared.rules.Rules.{Rules}

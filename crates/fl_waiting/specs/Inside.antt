@@ -1,3 +1,3 @@
 pub mod Claims
 pub mod Counts
-pub mod Searching
+pub mod Copies

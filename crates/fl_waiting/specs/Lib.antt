@@ -3,4 +3,5 @@ pub mod Inside
 pub mod Limits
 pub mod LockRequest
 pub mod Waiting
+pub mod Wanted
 pub use Rattle.fl_arena.specs.Chains

@@ -1,11 +1,11 @@
 -- What a lock request asks for, of its raw numbers (`struct fuse_lk_in` of Linux `fuse.h`).
 use Rattle.std.specs.Prelude.{ℕ, Bool, ◌==◌, bit_and, Option, Some, None, if◌then◌else◌}
 use Rattle.fl_order.specs.declared.order.LockAsk.{LockAsk}
-use Rattle.fl_ranges.specs.declared.lock.Class.TheVariants.{Record, Flock}
-use Rattle.fl_ranges.specs.declared.lock.Kind.TheVariants.{Read, Write}
-use Rattle.fl_ranges.specs.declared.lock.Key.{Key}
-use Rattle.fl_ranges.specs.declared.lock.Mark.{Mark}
-use Rattle.fl_ranges.specs.Marking.{Stroke}
+use Rattle.fl_marks.specs.declared.lock.Class.TheVariants.{Record, Flock}
+use Rattle.fl_marks.specs.declared.lock.Kind.TheVariants.{Read, Write}
+use Rattle.fl_marks.specs.declared.lock.Key.{Key}
+use Rattle.fl_marks.specs.declared.lock.Mark.{Mark}
+use Rattle.fl_marks.specs.Marking.{Stroke}
 
 -- bit 0 of the flags asks for a lock of the whole file (FUSE_LK_FLOCK)
 abbrev pub is_flock : LockAsk → Bool

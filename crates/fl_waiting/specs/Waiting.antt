@@ -4,12 +4,12 @@ use Rattle.std.specs.Prelude.{None, option_map, List, [], ◌∷◌, ◌++◌, i
 use Rattle.std.proofs.Math.Dec.{lit≤}
 use Rattle.std.specs.List.{list_any, filter_map, AllByRecursion}
 use Rattle.std.specs.FinMap.{entries}
-use Rattle.fl_ranges.specs.declared.lock.Key.{Key}
-use Rattle.fl_ranges.specs.declared.lock.Kind.{Kind}
-use Rattle.fl_ranges.specs.declared.lock.Kind.TheVariants.{Write}
-use Rattle.fl_ranges.specs.declared.lock.Mark.{Mark}
-use Rattle.fl_ranges.specs.Marking.{Marking, Spot, Stroke}
-use Rattle.fl_ranges.specs.Conflict.{conflicts, kinds_conflict, mark_conflicts, are_of_two_owners}
+use Rattle.fl_marks.specs.declared.lock.Key.{Key}
+use Rattle.fl_marks.specs.declared.lock.Kind.{Kind}
+use Rattle.fl_marks.specs.declared.lock.Kind.TheVariants.{Write}
+use Rattle.fl_marks.specs.declared.lock.Mark.{Mark}
+use Rattle.fl_marks.specs.Marking.{Marking, Spot, Stroke}
+use Rattle.fl_marks.specs.Conflict.{conflicts, kinds_conflict, mark_conflicts, are_of_two_owners}
 use Rattle.fl_waiting.specs.LockRequest.{is_flock, key_of, start_of, end_of, mark_of, stroke_of}
 use Rattle.fl_waiting.specs.declared.parked.Request.{Request}
 use Rattle.fl_waiting.specs.declared.rules.Rules.{Rules}

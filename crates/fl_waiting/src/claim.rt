@@ -2,10 +2,10 @@
 
 ghost use Rattle.std.specs.Prelude.{◌≡◌};
 ghost use Rattle.fl_waiting.specs.LockRequest.{stroke_of};
-ghost use Rattle.fl_ranges.specs.Marking.{stroke_on};
+ghost use Rattle.fl_marks.specs.Marking.{stroke_on};
 
 use crate::parked::Request;
-use fl_ranges::{Key, Mark, Range};
+use fl_marks::{Key, Mark, Range};
 
 /// A parked request, and the lock that it wants, read off what it asks: the owner's key, the bytes, and what each of
 /// them is to carry. Contracts see the request alone.

@@ -6,18 +6,18 @@ ghost use Rattle.std.specs.List.{list_any, AllByRecursion};
 ghost use Rattle.fl_arena.specs.Chains.{items, IsLinked};
 ghost use Rattle.fl_arena.specs.Cursors.{Tests, cursor_at};
 ghost use Rattle.fl_waiting.specs.Inside.Claims.{requests_of, ruled, IsFirstBehind};
-ghost use Rattle.fl_waiting.specs.Inside.Searching.{meant};
 ghost use Rattle.fl_waiting.specs.Waiting.{older_blocks, is_blocked_by_older, is_parked, passes_free, taken_behind};
 ghost use Rattle.fl_waiting.specs.Waiting.{taken_first, wishes};
+ghost use Rattle.fl_waiting.specs.Wanted.{meant};
 ghost use Rattle.fl_waiting.specs.declared.claim.Claim.{Claim};
 ghost use Rattle.fl_waiting.specs.declared.parked.Request.{Request};
 
-use crate::circle::{Wanted, older_blocks, wanted_of};
 use crate::claim::Claim;
 use crate::rules::Rules;
+use crate::wanted::{Wanted, older_blocks, wanted_of};
 use fl_arena::{Arena, Cursor};
+use fl_marks::{Key, Kind, Range};
 use fl_order::{LockAsk, NoMemory};
-use fl_ranges::{Key, Kind, Range};
 use std::alloc::{AllocError, Global};
 use std::marker::Model;
 
@@ -86,8 +86,8 @@ impl Parked {
         })
     }
 
-    // How many wait.
-    pub(crate) fn count(&self) -> usize
+    /// How many wait.
+    pub fn count(&self) -> usize
         ensures is { result ≡ length self.now }
         ensures few { result ≤ MOST_PARKED }
     {

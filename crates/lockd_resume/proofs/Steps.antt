@@ -30,15 +30,15 @@ use Rattle.fl_order.specs.declared.order.Order.{Order}
 use Rattle.fl_order.specs.declared.told.Answer.{Answer}
 use Rattle.fl_order.specs.declared.told.Answer.TheVariants.{Done}
 use Rattle.fl_order.specs.declared.told.Told.{Told}
-use Rattle.fl_ranges.specs.Blocker.{IsBlocker, blocker}
-use Rattle.fl_ranges.specs.Change.{Change, cleared, last_said, marking_after, said_by, said_or, struck}
-use Rattle.fl_ranges.specs.Marking.{Marking, Spot, Stroke, covers, stroked}
-use Rattle.fl_ranges.specs.Runs.{runs}
-use Rattle.fl_ranges.specs.declared.held.Held.{Held}
-use Rattle.fl_ranges.specs.declared.lock.Key.{Key}
-use Rattle.fl_ranges.specs.declared.lock.Kind.{Kind}
-use Rattle.fl_ranges.specs.declared.lock.Kind.TheVariants.{Read, Write}
-use Rattle.fl_ranges.specs.declared.lock.Mark.{Mark}
+use Rattle.fl_marks.specs.Blocker.{IsBlocker, blocker}
+use Rattle.fl_marks.specs.Change.{Change, cleared, last_said, marking_after, said_by, said_or, struck}
+use Rattle.fl_marks.specs.Marking.{Marking, Spot, Stroke, covers, stroked}
+use Rattle.fl_marks.specs.Runs.{runs}
+use Rattle.fl_marks.specs.declared.held.Held.{Held}
+use Rattle.fl_marks.specs.declared.lock.Key.{Key}
+use Rattle.fl_marks.specs.declared.lock.Kind.{Kind}
+use Rattle.fl_marks.specs.declared.lock.Kind.TheVariants.{Read, Write}
+use Rattle.fl_marks.specs.declared.lock.Mark.{Mark}
 use Rattle.fl_waiting.specs.LockRequest.{is_flock, key_of, mark_of, stroke_of}
 use Rattle.fl_waiting.specs.Waiting.{is_blocked, is_parked, taken_first, taken_out, waits, conflicts_with_held}
 use Rattle.fl_waiting.specs.Circle.{is_deadlock}

@@ -8,7 +8,7 @@ use fl_book::{
     print_trace, quiet, read_trace,
 };
 use fl_core::{Core, Tolds};
-use fl_ranges::{Class, Key, Kind, Range};
+use fl_marks::{Class, Key, Kind, Range};
 use fl_trace::laws::{a_text_breaks_at_one_line_at_most, no_text_is_that_of_two_histories};
 use std::alloc::Global;
 use std::process::Abort;

@@ -8,11 +8,11 @@ use Rattle.fl_core.specs.declared.settling.Touched.{Touched}
 use Rattle.fl_core.specs.declared.settling.Touched.TheVariants.{Nothing, OfClass, OfNode, Anything}
 use Rattle.fl_order.specs.declared.errno.Errno.{Errno}
 use Rattle.fl_order.specs.declared.told.Answer.{Answer}
-use Rattle.fl_ranges.specs.declared.lock.Class.{Class}
-use Rattle.fl_ranges.specs.declared.lock.Key.{Key}
-use Rattle.fl_ranges.specs.declared.lock.Kind.{Kind}
-use Rattle.fl_ranges.specs.Conflict.{conflicts}
-use Rattle.fl_ranges.specs.Marking.{Marking, class_number}
+use Rattle.fl_marks.specs.declared.lock.Class.{Class}
+use Rattle.fl_marks.specs.declared.lock.Key.{Key}
+use Rattle.fl_marks.specs.declared.lock.Kind.{Kind}
+use Rattle.fl_marks.specs.Conflict.{conflicts}
+use Rattle.fl_marks.specs.Marking.{Marking, class_number}
 
 -- locks of this class and node may have gone
 abbrev pub concerns : Touched → ℕ → Class → Bool

@@ -4,7 +4,8 @@ ghost use Rattle.std.specs.List.Sorted.{IsNonDecreasing};
 
 use super::same;
 use super::spans::{READ, WRITE};
-use fl_ranges::{Class, Key, Kind, LAST_BYTE, Mark, Place, Range, Table, laws};
+use fl_marks::{Class, Key, Kind, LAST_BYTE, Mark, Range};
+use fl_ranges::{Place, Table, laws};
 use std::process::Abort;
 
 // A record lock of an owner, all on one node.

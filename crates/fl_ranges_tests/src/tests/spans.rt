@@ -3,7 +3,7 @@ ghost use Rattle.std.specs.Prelude.{◌≡◌, ◌≤◌};
 ghost use Rattle.fl_ranges_tests.specs.OneRow.{IsOneRow};
 
 use super::same;
-use fl_ranges::{Kind, Mark};
+use fl_marks::{Kind, Mark};
 use fl_spans::{Full, LAST_BYTE, Rows, Span, find, stroke};
 use std::alloc::Global;
 use std::process::Abort;

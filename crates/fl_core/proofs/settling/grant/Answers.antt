@@ -1,5 +1,5 @@
 use Rattle.std.proofs.Common.{◌∙◌, ap}
-use Rattle.fl_ranges.specs.Change.{after_changes}
+use Rattle.fl_marks.specs.Change.{after_changes}
 use Rattle.fl_core.specs.Effects.{locked}
 use Rattle.fl_core.specs.Replies.{room_reply}
 use Rattle.fl_core.proofs.Requests.{set_marking}

@@ -6,8 +6,8 @@ use Rattle.fl_core.proofs.Settlings.{is_oldest, one_shorter, settled_none, settl
 use Rattle.fl_core.proofs.Taken.{apart_without, one_longer}
 use Rattle.fl_core.proofs.Waits.{none_concerned, others_granted}
 use Rattle.fl_core.proofs.settling.settle.Goals as goal
-use Rattle.fl_ranges.specs.Conflict.{SameElsewhere}
-use Rattle.fl_ranges.specs.Marking.{Stroke}
+use Rattle.fl_marks.specs.Conflict.{SameElsewhere}
+use Rattle.fl_marks.specs.Marking.{Stroke}
 use Rattle.fl_waiting.specs.Waiting.{AreApart}
 
 pub grant-requires : goal.grant-requires

@@ -1,5 +1,5 @@
 use Rattle.std.proofs.Common.{◌≡◌, ◌≤◌, ◌+◌, length}
-use Rattle.fl_ranges.specs.Conflict.{IsLawful}
+use Rattle.fl_marks.specs.Conflict.{IsLawful}
 use Rattle.fl_core.specs.Inside.Touched.{OthersWait}
 use Rattle.fl_core.specs.Settling.{present}
 use Rattle.fl_waiting.specs.Waiting.{AreApart}

@@ -4,7 +4,7 @@ use Rattle.std.proofs.lemmas.List.{append-nil}
 use Rattle.std.proofs.lemmas.List.Sorted.{answers_always}
 use Rattle.std.specs.List.{filter}
 use Rattle.fl_waiting.specs.Waiting.{older_blocks}
-use Rattle.fl_ranges.specs.declared.run.Run.{Run}
+use Rattle.fl_marks.specs.declared.run.Run.{Run}
 use Rattle.fl_locks.specs.declared.row.Blocker.{Blocker}
 use Rattle.fl_locks.specs.LockRows.{lock_on, holder, asker, goes_first, first_pids, in_the_way_of}
 use Rattle.fl_locks.specs.Inside.{meant, requests_of}

@@ -2,7 +2,7 @@ use Rattle.std.proofs.Common.{rules, ◌-◌, ℕ, nat_lt, nat_le, length, take,
 use Rattle.std.proofs.lemmas.List.{take_rest}
 use Rattle.std.proofs.lemmas.List.Sorted.{IsPartitionPoint-from_clause, IsPartitionedBy-ltb, IsPartitionedBy-leb, IsNonDecreasingBy-drop}
 use Rattle.std.proofs.lemmas.List.Sorted.{IsNonDecreasingBy-take}
-use Rattle.fl_ranges.specs.declared.run.Run.{Run}
+use Rattle.fl_marks.specs.declared.run.Run.{Run}
 use Rattle.fl_locks.proofs.RunsOn.{part_of}
 use Rattle.fl_locks.proofs.blockers.runs_on.Goals as goal
 

@@ -4,7 +4,7 @@ use Rattle.fl_core.specs.State.{Snapshot}
 use Rattle.fl_locks.specs.LockRows.{blockers_of, waiting_rows}
 use Rattle.fl_locks.specs.declared.row.LockRow.{LockRow}
 use Rattle.fl_dir.specs.Naming.{name_at, is_linked_at}
-use Rattle.fl_ranges.specs.declared.lock.Mark.{Mark}
+use Rattle.fl_marks.specs.declared.lock.Mark.{Mark}
 use Rattle.fl_waiting.specs.LockRequest.{mark_of, stroke_of, key_of, start_of, end_of}
 use Rattle.fl_waiting.specs.Waiting.{waits, passes, is_blocked_by, anyone, wishes, wish_on, AllBehind}
 use Rattle.fl_waiting.specs.declared.parked.Request.{Request}

@@ -1,9 +1,9 @@
 use Rattle.std.proofs.Common.{rules, ◌≡◌, ◌∙◌, ◌++◌, ℕ, false, None, [], map, refl, ap, subst}
 use Rattle.std.proofs.lemmas.List.Sorted.{answers_always}
-use Rattle.fl_ranges.specs.declared.lock.Class.TheVariants.{Record}
-use Rattle.fl_ranges.specs.declared.lock.Kind.TheVariants.{Read}
-use Rattle.fl_ranges.specs.HeldRuns.{runs_in_order, ConflictAsMarks}
-use Rattle.fl_ranges.specs.Marking.{Marking}
+use Rattle.fl_marks.specs.declared.lock.Class.TheVariants.{Record}
+use Rattle.fl_marks.specs.declared.lock.Kind.TheVariants.{Read}
+use Rattle.fl_marks.specs.HeldRuns.{runs_in_order, ConflictAsMarks}
+use Rattle.fl_marks.specs.Marking.{Marking}
 use Rattle.fl_locks.specs.declared.row.LockRow.{LockRow}
 use Rattle.fl_locks.specs.LockRows.{held_row, waiting_rows, by_node}
 use Rattle.fl_locks.specs.Inside.{requests_of}

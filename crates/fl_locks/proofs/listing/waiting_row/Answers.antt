@@ -1,6 +1,6 @@
 use Rattle.std.proofs.Common.{sym, subst}
 use Rattle.std.specs.List.Sorted.{IsNonDecreasingBy}
-use Rattle.fl_ranges.specs.declared.run.Run.{Run}
+use Rattle.fl_marks.specs.declared.run.Run.{Run}
 use Rattle.fl_locks.proofs.RunsOn.{runs_by_node}
 use Rattle.fl_locks.proofs.listing.waiting_row.Goals as goal
 

@@ -1,7 +1,7 @@
 use Rattle.std.proofs.Common.{rules, sym, ap, ◌∙◌}
 use Rattle.std.specs.List.{find}
 use Rattle.fl_spans.specs.Row.{spans_at}
-use Rattle.fl_ranges.specs.Conflict.{kinds_conflict}
+use Rattle.fl_marks.specs.Conflict.{kinds_conflict}
 use Rattle.fl_ranges.specs.Inside.Contenders.{span_conflicts}
 use Rattle.fl_ranges.proofs.ContenderRows.{contender_span, own_span}
 use Rattle.fl_ranges.proofs.contenders.conflicting_span.Goals as goal

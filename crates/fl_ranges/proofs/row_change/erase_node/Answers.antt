@@ -4,7 +4,7 @@ use Rattle.std.specs.List.{AllByRecursion}
 use Rattle.std.specs.Option.{option_copied}
 use Rattle.fl_arena.specs.declared.cursors.Cursor.{Cursor}
 use Rattle.fl_spans.specs.Rows.{chain_count, rows, keys}
-use Rattle.fl_ranges.specs.declared.lock.Key.{Key}
+use Rattle.fl_marks.specs.declared.lock.Key.{Key}
 use Rattle.fl_ranges.specs.Placing.{home}
 use Rattle.fl_ranges.specs.Inside.LockRows.{LockRow, AreInOrder}
 use Rattle.fl_ranges.proofs.RowPlaces.{row_end, in_order_drop}

@@ -2,7 +2,7 @@ use Rattle.std.proofs.Common.{◌≡◌, ◌-◌, length, take}
 use Rattle.std.specs.List.{AllByRecursion}
 use Rattle.fl_spans.specs.Rows.{chain_count, rows, limit_of, IsRow}
 use Rattle.fl_ranges.specs.Placing.{home}
-use Rattle.fl_ranges.specs.Runs.{without_node}
+use Rattle.fl_marks.specs.Runs.{without_node}
 use Rattle.fl_ranges.specs.Inside.LockRows.{row_marks, IsLockTable}
 use Rattle.fl_ranges.proofs.RowNodes.{IsOff}
 use Rattle.fl_ranges.proofs.row_change.erase_node.Given as goal

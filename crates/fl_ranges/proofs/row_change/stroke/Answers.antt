@@ -1,8 +1,8 @@
 use Rattle.std.proofs.Common.{◌↔◌, ◌<◌, sym, ap, subst, ◌∙◌}
 use Rattle.std.specs.Prelude.{IsErr}
 use Rattle.fl_spans.specs.Rows.{chain_count, limit_of}
-use Rattle.fl_ranges.specs.Marking.{stroked}
-use Rattle.fl_ranges.specs.Runs.{runs}
+use Rattle.fl_marks.specs.Marking.{stroked}
+use Rattle.fl_marks.specs.Runs.{runs}
 use Rattle.fl_ranges.specs.Inside.LockRows.{row_marks, IsLockTable}
 use Rattle.fl_ranges.proofs.RowStrokes.{either_way, then_ok, are_here, here_full, here_stroked, here_kept, new_full}
 use Rattle.fl_ranges.proofs.RowStrokes.{new_stroked, new_kept}

@@ -3,8 +3,8 @@ use Rattle.std.proofs.lemmas.List.{length-map}
 use Rattle.std.specs.List.{list_any}
 use Rattle.fl_arena.specs.Chains.{items}
 use Rattle.fl_arena.specs.declared.cursors.Cursor.{Cursor}
-use Rattle.fl_ranges.specs.Marking.{Stroke}
-use Rattle.fl_ranges.specs.declared.lock.Mark.{Mark}
+use Rattle.fl_marks.specs.Marking.{Stroke}
+use Rattle.fl_marks.specs.declared.lock.Mark.{Mark}
 use Rattle.fl_waiting.specs.Inside.Claims.{request_in, requests_of, ruled}
 use Rattle.fl_waiting.specs.Waiting.{Wish, any_older_blocks, older_blocks, anyone, passes, wish_on, wishes}
 use Rattle.fl_waiting.specs.declared.claim.Claim.{Claim}

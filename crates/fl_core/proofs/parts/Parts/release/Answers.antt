@@ -1,5 +1,5 @@
 use Rattle.std.proofs.Common.{sym, subst}
-use Rattle.fl_ranges.specs.Conflict.{IsLawful}
+use Rattle.fl_marks.specs.Conflict.{IsLawful}
 use Rattle.fl_core.specs.State.{Snapshot}
 use Rattle.fl_core.proofs.parts.Parts.release.Goals as goal
 

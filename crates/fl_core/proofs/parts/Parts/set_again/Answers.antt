@@ -3,8 +3,8 @@ use Rattle.fl_core.specs.Effects.{locked}
 use Rattle.fl_core.specs.State.{Snapshot}
 use Rattle.fl_core.proofs.Replays.{granted_made}
 use Rattle.fl_core.proofs.parts.Parts.set_again.Goals as goal
-use Rattle.fl_ranges.specs.Change.{after_changes}
-use Rattle.fl_ranges.specs.Marking.{Marking}
+use Rattle.fl_marks.specs.Change.{after_changes}
+use Rattle.fl_marks.specs.Marking.{Marking}
 
 pub returns-in-Setlk-clause-made : goal.returns-in-Setlk-clause-made
 returns-in-Setlk-clause-made c set answer =

@@ -2,7 +2,7 @@ use Rattle.std.proofs.Common.{◌∙◌, Some, sym, subst, ap}
 use Rattle.fl_core.specs.Replies.{reply_to, setlk_reply, setlkw_reply}
 use Rattle.fl_core.specs.State.{Snapshot}
 use Rattle.fl_core.proofs.parts.Parts.take.Goals as goal
-use Rattle.fl_ranges.specs.Conflict.{IsLawful}
+use Rattle.fl_marks.specs.Conflict.{IsLawful}
 
 pub returns-in-Setlk-clause-reply : goal.returns-in-Setlk-clause-reply
 returns-in-Setlk-clause-reply c =

@@ -1,6 +1,6 @@
 use Rattle.std.proofs.Common.{ap, ◌∙◌}
 use Rattle.std.specs.Option.{option_map}
-use Rattle.fl_ranges.specs.Blocker.{blocker}
+use Rattle.fl_marks.specs.Blocker.{blocker}
 use Rattle.fl_ranges.specs.LockTable.{LockTable}
 use Rattle.fl_ranges.specs.Inside.Nearest.{lock_of}
 use Rattle.fl_ranges.specs.Inside.LockRows.{table_runs}

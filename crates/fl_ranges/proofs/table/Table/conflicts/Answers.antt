@@ -1,5 +1,5 @@
 use Rattle.std.proofs.Common.{true, ap, ◌∙◌}
-use Rattle.fl_ranges.specs.Conflict.{conflicts}
+use Rattle.fl_marks.specs.Conflict.{conflicts}
 use Rattle.fl_ranges.specs.LockTable.{LockTable}
 use Rattle.fl_ranges.specs.Inside.LockRows.{table_runs}
 use Rattle.fl_ranges.proofs.Conflicting.{runs_conflict}

@@ -1,4 +1,4 @@
-use Rattle.fl_ranges.specs.Runs.{without_node}
+use Rattle.fl_marks.specs.Runs.{without_node}
 use Rattle.fl_ranges.proofs.Lawful.{lawful_without, lawful_with}
 use Rattle.fl_ranges.proofs.Elsewhere.{off_node_with}
 use Rattle.fl_ranges.proofs.TableCalls.{seen}

@@ -1,5 +1,5 @@
 use Rattle.std.proofs.Common.{None}
-use Rattle.fl_ranges.specs.Marking.{Stroke, stroked}
+use Rattle.fl_marks.specs.Marking.{Stroke, stroked}
 use Rattle.fl_ranges.proofs.Lawful.{lawful_stroked, lawful_with}
 use Rattle.fl_ranges.proofs.Elsewhere.{elsewhere_with}
 use Rattle.fl_ranges.proofs.TableCalls.{seen}

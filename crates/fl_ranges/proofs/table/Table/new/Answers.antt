@@ -1,6 +1,6 @@
 use Rattle.std.proofs.Common.{sym, ap, subst}
 use Rattle.fl_ranges.specs.LockTable.{LockTable}
-use Rattle.fl_ranges.specs.Conflict.{IsLawful}
+use Rattle.fl_marks.specs.Conflict.{IsLawful}
 use Rattle.fl_ranges.proofs.Lawful.{lawful_empty}
 use Rattle.fl_ranges.proofs.TableCalls.{new_table, new_seen}
 use Rattle.fl_ranges.proofs.table.Table.new.Goals as goal

@@ -1,6 +1,6 @@
 use Rattle.std.proofs.Common.{◌≡◌, Some, ap, sym, ◌∙◌}
-use Rattle.fl_ranges.specs.declared.lock.Mark.{Mark}
-use Rattle.fl_ranges.specs.Conflict.{conflicts}
+use Rattle.fl_marks.specs.declared.lock.Mark.{Mark}
+use Rattle.fl_marks.specs.Conflict.{conflicts}
 use Rattle.fl_ranges.proofs.Lawful.{lawful_either}
 use Rattle.fl_ranges.proofs.Elsewhere.{elsewhere_either}
 use Rattle.fl_ranges.proofs.table.Table.put.Goals as goal

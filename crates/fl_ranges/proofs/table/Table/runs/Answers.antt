@@ -1,6 +1,6 @@
 use Rattle.std.proofs.Common.{ap, ◌∙◌}
 use Rattle.fl_ranges.specs.LockTable.{LockTable}
-use Rattle.fl_ranges.specs.Runs.{runs}
+use Rattle.fl_marks.specs.Runs.{runs}
 use Rattle.fl_ranges.proofs.TableCalls.{runs_counted}
 use Rattle.fl_ranges.proofs.table.Table.runs.Goals as goal
 

@@ -2,8 +2,8 @@ use Rattle.std.proofs.Common.{◌<◌, ℕ, refl, sym, subst}
 use Rattle.std.specs.Prelude.{IsErr}
 use Rattle.fl_spans.specs.Rows.{limit_of}
 use Rattle.fl_ranges.specs.LockTable.{LockTable}
-use Rattle.fl_ranges.specs.Marking.{stroke_on, stroked}
-use Rattle.fl_ranges.specs.Runs.{runs}
+use Rattle.fl_marks.specs.Marking.{stroke_on, stroked}
+use Rattle.fl_marks.specs.Runs.{runs}
 use Rattle.fl_ranges.specs.Inside.LockRows.{row_marks}
 use Rattle.fl_ranges.proofs.table.Table.stroke.Goals as goal
 use Rattle.fl_ranges.proofs.table.Table.stroke.Goals.{in-Ok, in-Err}

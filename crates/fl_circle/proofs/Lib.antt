@@ -1,0 +1,4 @@
+pub mod Among
+pub mod Circles
+pub mod Searches
+pub mod Wishes

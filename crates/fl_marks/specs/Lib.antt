@@ -1,0 +1,7 @@
+pub mod Marking
+pub mod Blocker
+pub mod Conflict
+pub mod Codes
+pub mod Runs
+pub mod HeldRuns
+pub mod Change
