@@ -8,8 +8,7 @@ use Rattle.fl_board.specs.Inside.Asks.{lines_from, history_of}
 use Rattle.fl_board.specs.Seats.{Place}
 use Rattle.fl_board.specs.Shown.{IsHandedIn}
 use Rattle.fl_core.specs.State.{Snapshot}
-use Rattle.fl_desk.specs.Answered.{Answered, IsAnsweredLast, answered, answered_by, first_tolds}
-use Rattle.fl_desk.specs.Legal.{step_lines}
+use Rattle.fl_counter.specs.Answered.{Answered, IsAnsweredLast, answered, answered_by, first_tolds, step_lines}
 use Rattle.fl_history.specs.declared.history.Line.{Line}
 use Rattle.fl_history.specs.declared.history.Line.TheVariants as line
 use Rattle.fl_order.specs.declared.order.Order.{Order}

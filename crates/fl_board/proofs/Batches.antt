@@ -5,7 +5,7 @@ use Rattle.fl_board.proofs.Answering.{handed_in_last}
 use Rattle.fl_board.specs.Inside.Recorded.{all_stored}
 use Rattle.fl_board.specs.Seats.{Place}
 use Rattle.fl_board.specs.Shown.{AreHandedIn, IsHandedIn}
-use Rattle.fl_desk.specs.Answered.{AreAnsweredLast, answered_by}
+use Rattle.fl_counter.specs.Answered.{AreAnsweredLast, answered_by}
 use Rattle.fl_order.specs.declared.order.Order.{Order}
 use Rattle.fl_order.specs.declared.told.Told.{Told}
 use Rattle.fl_waiting.specs.declared.rules.Rules.{Rules}

@@ -11,8 +11,8 @@ use Rattle.fl_board.proofs.Answering.{answered_last}
 use Rattle.fl_board.specs.Inside.Asks.{HasMostOf}
 use Rattle.fl_board.specs.Seats.{AreApart, Place}
 use Rattle.fl_board.specs.Shown.{HasAllOf}
-use Rattle.fl_desk.specs.Answered.{Answered, answered, answered_by}
-use Rattle.fl_desk.specs.Legal.{is_asked, orders_asked, step_lines}
+use Rattle.fl_counter.specs.Answered.{Answered, answered, answered_by, step_lines}
+use Rattle.fl_desk.specs.Legal.{is_asked, orders_asked}
 use Rattle.fl_history.specs.declared.history.Line.{Line}
 use Rattle.fl_history.specs.declared.history.Line.TheVariants as line
 use Rattle.fl_order.specs.declared.order.Order.{Order}

@@ -8,8 +8,8 @@ use Rattle.fl_board.proofs.Counts.{no_longer}
 use Rattle.fl_board.proofs.Prefixes.{of_itself}
 use Rattle.fl_board.specs.Seats.{Place, front_of}
 use Rattle.fl_board.specs.Shown.{AreHandedIn, IsHandedIn, IsShown, KeepsHanded}
-use Rattle.fl_desk.specs.Answered.{AreBehind, IsAnsweredAfter, answered_by}
-use Rattle.fl_desk.specs.Legal.{step_lines}
+use Rattle.fl_counter.specs.Answered.{AreBehind, answered_by, step_lines}
+use Rattle.fl_desk.specs.Answered.{IsAnsweredAfter}
 use Rattle.fl_history.specs.declared.history.Line.{Line}
 use Rattle.fl_order.specs.declared.errno.Errno.{Errno}
 use Rattle.fl_order.specs.declared.order.Order.{Order}

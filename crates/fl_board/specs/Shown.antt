@@ -2,8 +2,9 @@
 use Rattle.std.specs.Prelude.{◌≡◌, ◌+◌, ◌≤◌, Result, List, [], ◌∷◌, ◌++◌, length}
 use mathlib.Core.List.{IsPrefix}
 use Rattle.fl_board.specs.Seats.{Place}
-use Rattle.fl_desk.specs.Answered.{IsAnsweredAfter, answered_by}
-use Rattle.fl_desk.specs.Legal.{IsLegal, step_lines}
+use Rattle.fl_counter.specs.Answered.{answered_by, step_lines}
+use Rattle.fl_desk.specs.Answered.{IsAnsweredAfter}
+use Rattle.fl_desk.specs.Legal.{IsLegal}
 use Rattle.fl_history.specs.declared.history.Line.{Line}
 use Rattle.fl_order.specs.declared.errno.Errno.{Errno}
 use Rattle.fl_order.specs.declared.order.Order.{Order}

@@ -2,7 +2,8 @@
 
 ghost use Rattle.std.specs.Prelude.{◌+◌};
 ghost use Rattle.fl_board.specs.Seats.{front_of};
-ghost use Rattle.fl_desk.specs.Answered.{IsAnsweredAfter, answered_by};
+ghost use Rattle.fl_counter.specs.Answered.{answered_by};
+ghost use Rattle.fl_desk.specs.Answered.{IsAnsweredAfter};
 
 use crate::board::Board;
 use crate::seat::Seat;

@@ -32,7 +32,7 @@ impl<L: BoardName> Model for Seat<L> {
     ghost use Rattle.std.specs.Prelude.{◌≡◌, ◌≤◌, length};
     ghost use Rattle.fl_board.specs.Inside.Asks.{history_of};
     ghost use Rattle.fl_board.specs.Seats.{Place};
-    ghost use Rattle.fl_desk.specs.Answered.{answered_by};
+    ghost use Rattle.fl_counter.specs.Answered.{answered_by};
 
     ghost Value = { Place };
 

@@ -8,7 +8,7 @@ ghost use Rattle.fl_board.specs.Inside.Recorded.{all_stored};
 ghost use Rattle.fl_board.specs.Refused.{CantClose, FallsShort};
 ghost use Rattle.fl_board.specs.Seats.{AreApart};
 ghost use Rattle.fl_board.specs.Shown.{AreHandedIn, HaveMet, IsHandedIn, KeepsHanded};
-ghost use Rattle.fl_core.specs.Tolds.{HasRoom};
+ghost use Rattle.fl_counter.specs.Tolds.{HasRoom};
 ghost use Rattle.fl_desk.specs.Legal.{IsLegal, LeavesLawful, orders_asked};
 
 use crate::asks::asks_lead;

@@ -5,7 +5,7 @@ use Rattle.std.proofs.lemmas.Bool.Decides.{nat_tests}
 use Rattle.std.specs.FinMap.{empty}
 use Rattle.std.specs.List.{fold, AllByRecursion}
 use Rattle.fl_core.specs.State.{View, State, Snapshot, snapshot_of}
-use Rattle.fl_core.specs.Replies.{own_replies}
+use Rattle.fl_counter.specs.Tolds.{own_replies}
 use Rattle.fl_waiting.specs.Waiting.{taken_out}
 use Rattle.fl_waiting.specs.declared.parked.Request.{Request}
 use Rattle.fl_core.specs.Effects.{Effect, leaving, at_once, later_to, later, followed_by, told_first, replied, recorded}

@@ -10,7 +10,8 @@ use Rattle.fl_core.specs.First.{is_one_too_many, waits_now}
 use Rattle.fl_core.specs.First.{forget_of_a_waiter, as_a_waiter, as_no_waiter}
 use Rattle.fl_waiting.specs.Circle.{is_deadlock, ClosesCircle}
 use Rattle.fl_core.specs.Effects.{request_of}
-use Rattle.fl_core.specs.Replies.{ask_error, reply_to, taken_reply, own_replies, ended_with, ended_all, ended_by}
+use Rattle.fl_core.specs.Replies.{ask_error, reply_to, taken_reply, ended_with, ended_all, ended_by}
+use Rattle.fl_counter.specs.Tolds.{own_replies}
 use Rattle.fl_core.specs.Replies.{first_told, at_once_unless}
 use Rattle.fl_waiting.specs.LockRequest.{mark_of, stroke_of}
 use Rattle.fl_core.specs.Settling.{grant_reply}

@@ -5,7 +5,8 @@ use Rattle.std.specs.List.{AllByRecursion}
 use Rattle.fl_core.specs.Effects.{answered, by_reply, leaving, made}
 use Rattle.fl_core.specs.First.{own}
 use Rattle.fl_core.specs.Inside.Parts.{left_by, left_if, with_parked}
-use Rattle.fl_core.specs.Replies.{ended_by, ended_if, ending_of, own_replies}
+use Rattle.fl_core.specs.Replies.{ended_by, ended_if, ending_of}
+use Rattle.fl_counter.specs.Tolds.{own_replies}
 use Rattle.fl_core.specs.Settling.{Settled}
 use Rattle.fl_core.specs.State.{Snapshot, View}
 use Rattle.fl_core.specs.Step.{settling, with_present, ChangesNothing}

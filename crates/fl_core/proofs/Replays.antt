@@ -3,7 +3,7 @@ use Rattle.std.proofs.Common.{◌≡◌, ◌∙◌, ◌⊎◌, ⊎_elim, false, 
 use Rattle.std.proofs.lemmas.Bool.{eq-eqb}
 use Rattle.fl_core.specs.Effects.{answered, at_once, by_reply, followed_by, later, leaving, locked, made, replied}
 use Rattle.fl_core.specs.First.{own}
-use Rattle.fl_core.specs.Replies.{own_replies}
+use Rattle.fl_counter.specs.Tolds.{own_replies}
 use Rattle.fl_core.specs.State.{Snapshot}
 use Rattle.fl_core.specs.Step.{next, replies}
 use Rattle.fl_waiting.specs.Waiting.{is_parked, AllWait, AreApart}

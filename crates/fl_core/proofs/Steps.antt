@@ -7,7 +7,8 @@ use Rattle.std.specs.List.{filter, AllByRecursion}
 use Rattle.fl_core.specs.Effects.{Effect, leaving, answered, unanswered, request_of, waited_for, with_waiter, by_reply}
 use Rattle.fl_core.specs.Effects.{at_once, replied, made}
 use Rattle.fl_core.specs.Inside.Parts.{left_by, left_if, with_parked}
-use Rattle.fl_core.specs.Replies.{at_once_unless, taken_reply, reply_to, own_reply, own_replies, ended_with, ended_all}
+use Rattle.fl_core.specs.Replies.{at_once_unless, taken_reply, reply_to, own_reply, ended_with, ended_all}
+use Rattle.fl_counter.specs.Tolds.{own_replies}
 use Rattle.fl_core.specs.Replies.{ending_of, error_of, picks, ended_if, ended_by, ended, first_told}
 use Rattle.fl_core.specs.Settling.{Present, Settled, present, settled, IsSettled, done, one}
 use Rattle.fl_core.specs.State.{Snapshot}

@@ -6,7 +6,8 @@ use Rattle.std.specs.Prelude.{length}
 use Rattle.std.specs.List.{AllByRecursion}
 use Rattle.fl_waiting.specs.Circle.{ClosesCircle}
 use Rattle.fl_core.specs.Effects.{request_of}
-use Rattle.fl_core.specs.Replies.{ask_error, reply_to, own_replies, ended_with, ended_all}
+use Rattle.fl_core.specs.Replies.{ask_error, reply_to, ended_with, ended_all}
+use Rattle.fl_counter.specs.Tolds.{own_replies}
 use Rattle.fl_core.specs.Settling.{grant_reply}
 use Rattle.fl_core.specs.State.{Snapshot}
 use Rattle.fl_waiting.specs.Waiting.{waits}

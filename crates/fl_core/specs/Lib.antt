@@ -8,4 +8,3 @@ pub mod Settling
 pub mod Stages
 pub mod State
 pub mod Step
-pub mod Tolds

@@ -6,6 +6,7 @@ use Rattle.std.specs.List.{filter}
 use Rattle.fl_waiting.specs.Circle.{is_deadlock}
 use Rattle.fl_waiting.specs.LockRequest.{is_flock, key_of, mark_of, stroke_of}
 use Rattle.fl_core.specs.State.{View, Snapshot}
+use Rattle.fl_counter.specs.Tolds.{own_replies}
 use Rattle.fl_waiting.specs.Waiting.{is_blocked, conflicts_with_held, is_parked}
 use Rattle.fl_core.specs.declared.ending.Ending.{Ending}
 use Rattle.fl_core.specs.declared.ending.Ending.TheVariants.{Through, Named}
@@ -137,11 +138,6 @@ taken_reply _ = Some (Err EINVAL)
 abbrev pub own_reply : Rules → View → Marking → Order → Option (Result Answer Errno)
 own_reply rules v m order =
     if is_parked order.unique v.parked then taken_reply order.op else reply_to rules v m order order.op
-
--- the same as a list
-abbrev pub own_replies : Order → Option (Result Answer Errno) → List Told
-own_replies order None = []
-own_replies order (Some result) = record { unique = order.unique; result = result } ∷ []
 
 -- a parked request is rejected with an error, and goes
 abbrev pub ended_with : Errno → Request → Told

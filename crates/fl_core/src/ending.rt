@@ -4,7 +4,7 @@ ghost use Rattle.std.specs.Prelude.{◌≡◌, ◌≤◌, ◌+◌, ◌++◌, fal
 ghost use Rattle.std.specs.List.{filter};
 ghost use Rattle.fl_core.specs.Replies.{ended_all, ending_of, error_of, picks};
 
-use crate::tolds::Tolds;
+use fl_counter::Tolds;
 use fl_order::{Answer, Errno, Op, Order, Told};
 use fl_waiting::{Claim, Parked};
 

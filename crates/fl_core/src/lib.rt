@@ -13,8 +13,7 @@
 //! All that is there stands in five arenas, and a sixth finds names faster. No slot is linked twice (`Core::arenas`).
 //!
 //! `Core::replay` is for a second core that follows a first: a lock request is carried out by its reply, and no test is
-//! made again. Contracts let through a `replay` that makes all tests, and a `Tolds::new` that is always refused, or has
-//! more room than its rules want; tests refuse the latter.
+//! made again. Contracts let through a `replay` that makes all tests.
 #![tactic(auto)]
 
 mod arenas;
@@ -25,9 +24,8 @@ mod parts;
 mod replay;
 mod settling;
 mod state;
-mod tolds;
 
 pub use arenas::Arenas;
+pub use fl_counter::Tolds;
 pub use fl_waiting::{Request, Rules};
 pub use state::Core;
-pub use tolds::Tolds;

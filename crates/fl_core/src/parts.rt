@@ -18,7 +18,7 @@ ghost use Rattle.fl_marks.specs.declared.lock.Class.TheVariants.{Record};
 use crate::ending::{end_all, ending_of};
 use crate::locking::{release_locks, set_lock, set_or_wait, test_lock, unlock};
 use crate::settling::{Touched, settle};
-use crate::tolds::Tolds;
+use fl_counter::Tolds;
 use fl_dir::Dir;
 use fl_marks::Class;
 use fl_order::{Answer, Errno, NoMemory, Op, Order};

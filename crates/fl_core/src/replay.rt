@@ -2,9 +2,8 @@
 
 ghost use Rattle.std.specs.Prelude.{◌≡◌, ◌≤◌, ◌++◌, ◌∷◌, [], true, false, length, Some, None, Ok};
 ghost use Rattle.fl_core.specs.Effects.{at_once, locked, made};
-ghost use Rattle.fl_core.specs.Replies.{own_replies};
+ghost use Rattle.fl_counter.specs.Tolds.{HasRoom, own_replies};
 ghost use Rattle.fl_core.specs.Step.{next, replies};
-ghost use Rattle.fl_core.specs.Tolds.{HasRoom};
 ghost use Rattle.fl_order.specs.declared.told.Answer.{Answer};
 ghost use Rattle.fl_marks.specs.Change.{after_changes};
 ghost use Rattle.fl_waiting.specs.Waiting.{is_parked};
@@ -12,7 +11,7 @@ ghost use Rattle.fl_waiting.specs.Waiting.{is_parked};
 use crate::locking::{key_of, mark_of, range_of, set_range};
 use crate::parts::Parts;
 use crate::state::Core;
-use crate::tolds::Tolds;
+use fl_counter::Tolds;
 use fl_order::{Answer, Errno, LockAsk, Op, Order};
 use fl_ranges::Table;
 use fl_waiting::{Claim, Parked, Request, Rules};

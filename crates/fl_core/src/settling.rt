@@ -11,7 +11,7 @@ ghost use Rattle.fl_waiting.specs.Waiting.{conflicts_with_held, AreApart};
 ghost use Rattle.fl_waiting.specs.declared.parked.Request.{Request};
 
 use crate::locking::{conflicts_with_held, key_of, set_range};
-use crate::tolds::Tolds;
+use fl_counter::Tolds;
 use fl_marks::Class;
 use fl_order::{Answer, Errno, LockAsk, Told};
 use fl_ranges::Table;

@@ -4,16 +4,16 @@ ghost use Rattle.std.specs.Prelude.{◌≡◌, ◌≤◌, ◌<◌, ◌+◌, ◌�
 ghost use Rattle.fl_waiting.specs.Circle.{closes_circle};
 ghost use Rattle.fl_core.specs.State.{State, opening, snapshot_of};
 ghost use Rattle.fl_core.specs.Effects.{replied, recorded};
-ghost use Rattle.fl_core.specs.Replies.{own_replies, taken_reply};
+ghost use Rattle.fl_core.specs.Replies.{taken_reply};
+ghost use Rattle.fl_counter.specs.Tolds.{HasRoom, own_replies};
 ghost use Rattle.fl_core.specs.Step.{next, replies, ChangesNothing};
-ghost use Rattle.fl_core.specs.Tolds.{HasRoom};
 ghost use Rattle.fl_waiting.specs.Waiting.{is_waiting, AllWait, AreApart};
 ghost use Rattle.fl_order.specs.Order.{only_reads};
 ghost use Rattle.fl_marks.specs.Conflict.{IsLawful};
 
 use crate::parts::Parts;
-use crate::tolds::Tolds;
 use fl_circle::close_circle;
+use fl_counter::Tolds;
 use fl_dir::Dir;
 use fl_marks::{Key, Kind, Range};
 use fl_order::{Answer, Errno, NoMemory, Op, Order, Told};

@@ -6,7 +6,8 @@ use Rattle.std.specs.List.{fold}
 use Rattle.std.proofs.lemmas.Bool.{eq-eqb, ne_eqb}
 use Rattle.fl_desk.specs.Replay.{Reading, unread, committed, read_reply, read_line, state_at_end, state_after}
 use Rattle.fl_desk.specs.Replay.{all_later, AllOthers}
-use Rattle.fl_desk.specs.Legal.{IsLegal, nothing, step, step_lines}
+use Rattle.fl_counter.specs.Answered.{step_lines}
+use Rattle.fl_desk.specs.Legal.{IsLegal, nothing, step}
 use Rattle.fl_desk.specs.Kept.{IsKept}
 use Rattle.fl_core.specs.State.{View, State, Snapshot, opening, snapshot_of}
 use Rattle.fl_core.specs.Effects.{Effect, at_once, later, followed_by, told_first, replied, recorded}

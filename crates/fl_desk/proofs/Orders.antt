@@ -1,6 +1,7 @@
 -- A legal history goes order by order.
 use Rattle.std.proofs.Common.{◌≡◌, ℕ, ◌⊎◌, inl, inr, List, [], ◌∷◌, ◌++◌, map, refl, ap, sym, ◌∙◌, subst}
-use Rattle.fl_desk.specs.Legal.{IsLegal, nothing, step, step_lines}
+use Rattle.fl_counter.specs.Answered.{step_lines}
+use Rattle.fl_desk.specs.Legal.{IsLegal, nothing, step}
 use Rattle.fl_desk.specs.Leading.{LeadsTo, GoesOn, ends, goes}
 use Rattle.fl_desk.specs.Replay.{state_after}
 use Rattle.fl_core.specs.State.{State, Snapshot, opening, snapshot_of}

@@ -7,7 +7,8 @@ use Rattle.std.proofs.Math.Seq.{take-append-add}
 use Rattle.std.proofs.lemmas.List.{append_cancel_left, length-append, map-append, take_all, take-append-drop}
 use Rattle.std.proofs.lemmas.List.{length-drop, length-take-le}
 use Rattle.std.proofs.Math.Numerals.{add-one}
-use Rattle.fl_desk.specs.Legal.{IsLegal, nothing, step, step_lines}
+use Rattle.fl_counter.specs.Answered.{step_lines}
+use Rattle.fl_desk.specs.Legal.{IsLegal, nothing, step}
 use Rattle.fl_desk.specs.Replay.{state_after}
 use Rattle.fl_desk.specs.Verdicts.{IsBeginning, DiffersAt}
 use Rattle.fl_core.specs.Step.{replies_in}

@@ -4,7 +4,8 @@ use Rattle.fl_core.specs.State.{Snapshot, snapshot_of}
 use Rattle.fl_core.specs.Step.{replies}
 use Rattle.fl_marks.specs.Conflict.{IsLawful}
 use Rattle.fl_waiting.specs.Waiting.{AllWait, AreApart}
-use Rattle.fl_desk.specs.Legal.{IsLegal, step_lines}
+use Rattle.fl_counter.specs.Answered.{step_lines}
+use Rattle.fl_desk.specs.Legal.{IsLegal}
 use Rattle.fl_desk.specs.Replay.{state_after}
 use Rattle.fl_history.specs.declared.history.Line.{Line}
 use Rattle.fl_order.specs.declared.order.Order.{Order}

@@ -11,10 +11,6 @@ use Rattle.fl_order.specs.declared.order.Order.{Order}
 use Rattle.fl_marks.specs.Conflict.{IsLawful}
 use Rattle.fl_waiting.specs.declared.rules.Rules.{Rules}
 
--- an order and its replies, as lines
-abbrev pub step_lines : ℕ → Order → List Told → List Line
-step_lines worker order replies = line.Asked worker order ∷ map (λ told. line.Told told) replies
-
 -- no lines; or a legal beginning, and one more order with the replies that it gets in the state after that beginning
 pub data IsLegal (rules : Rules) : List Line → Type 0 where
   nothing : IsLegal rules []

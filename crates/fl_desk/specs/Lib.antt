@@ -1,9 +1,7 @@
 pub mod Answered
-pub mod Asked
 pub mod BookCode
 pub mod Kept
 pub mod Leading
 pub mod Legal
-pub mod Lists
 pub mod Replay
 pub mod Verdicts

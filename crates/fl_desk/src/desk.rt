@@ -6,8 +6,9 @@ ghost use Rattle.fl_desk.specs.Replay.{state_after};
 ghost use Rattle.fl_core.specs.Arenas.{AreLinked, Hold};
 ghost use Rattle.fl_core.specs.State.{opening, snapshot_of};
 ghost use Rattle.fl_core.specs.Step.{next, replies_in};
-ghost use Rattle.fl_core.specs.Tolds.{HasRoom};
-ghost use Rattle.fl_desk.specs.Legal.{IsLegal, LeavesLawful, step_lines};
+ghost use Rattle.fl_counter.specs.Tolds.{HasRoom};
+ghost use Rattle.fl_counter.specs.Answered.{step_lines};
+ghost use Rattle.fl_desk.specs.Legal.{IsLegal, LeavesLawful};
 ghost use Rattle.fl_desk.specs.Kept.{IsKept, opening_book};
 ghost use Rattle.fl_waiting.specs.Waiting.{is_parked};
 

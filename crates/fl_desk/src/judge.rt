@@ -2,7 +2,7 @@
 
 ghost use Rattle.std.specs.Prelude.{◌≡◌, ◌≢◌, ◌↔◌, ◌≤◌, ◌<◌, ◌^◌, true, Some, [], IfOk, length, map, take, drop};
 ghost use Rattle.std.specs.List.{slice_get};
-ghost use Rattle.fl_core.specs.Tolds.{HasRoom};
+ghost use Rattle.fl_counter.specs.Tolds.{HasRoom};
 ghost use Rattle.fl_desk.specs.Kept.{IsKept};
 ghost use Rattle.fl_desk.specs.Verdicts.{IsVerdict};
 ghost use Rattle.fl_history.specs.declared.history.Line.TheVariants as line;

@@ -2,7 +2,8 @@
 
 ghost use Rattle.std.specs.Prelude.{◌≡◌, ℕ, Some, None, List, [], ◌∷◌, ◌++◌};
 ghost use Rattle.fl_desk.specs.Leading.{LeadsTo, GoesOn};
-ghost use Rattle.fl_desk.specs.Legal.{IsLegal, step_lines};
+ghost use Rattle.fl_counter.specs.Answered.{step_lines};
+ghost use Rattle.fl_desk.specs.Legal.{IsLegal};
 ghost use Rattle.fl_desk.specs.Replay.{state_after, all_later, AllOthers};
 ghost use Rattle.fl_core.specs.Effects.{at_once, recorded};
 ghost use Rattle.fl_core.specs.State.{Snapshot, opening, snapshot_of};

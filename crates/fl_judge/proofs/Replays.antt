@@ -10,7 +10,8 @@ use Rattle.fl_core.specs.State.{Snapshot}
 use Rattle.fl_core.specs.Stages.{asked_by}
 use Rattle.fl_core.specs.Step.{next, replies}
 use Rattle.fl_desk.specs.Leading.{LeadsTo, GoesOn, ends, goes}
-use Rattle.fl_desk.specs.Legal.{IsLegal, step_lines}
+use Rattle.fl_counter.specs.Answered.{step_lines}
+use Rattle.fl_desk.specs.Legal.{IsLegal}
 use Rattle.fl_desk.specs.Verdicts.{IsBeginning}
 use Rattle.fl_history.specs.declared.history.Line.{Line}
 use Rattle.fl_history.specs.declared.history.Line.TheVariants as line

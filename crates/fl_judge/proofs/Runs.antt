@@ -15,7 +15,8 @@ use Rattle.fl_core.specs.State.{Snapshot, opening, snapshot_of}
 use Rattle.fl_core.specs.Step.{next, replies}
 use Rattle.fl_waiting.specs.Waiting.{AllWait, AreApart}
 use Rattle.fl_desk.specs.Leading.{LeadsTo}
-use Rattle.fl_desk.specs.Legal.{IsLegal, nothing, step, step_lines}
+use Rattle.fl_counter.specs.Answered.{step_lines}
+use Rattle.fl_desk.specs.Legal.{IsLegal, nothing, step}
 use Rattle.fl_desk.specs.Replay.{state_after}
 use Rattle.fl_history.specs.declared.history.Line.{Line}
 use Rattle.fl_history.specs.declared.history.Line.TheVariants as line

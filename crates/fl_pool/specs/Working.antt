@@ -1,8 +1,8 @@
 -- What the workers of a session did together.
 use Rattle.std.specs.Prelude.{◌≡◌, ℕ, Bool, false, List, [], ◌∷◌, ◌||◌, All, map, sum_by}
 use Rattle.atomic_table.specs.Seated.{TableId}
-use Rattle.fl_desk.specs.Answered.{Answered}
-use Rattle.fl_desk.specs.Asked.{Orders}
+use Rattle.fl_counter.specs.Answered.{Answered}
+use Rattle.fl_counter.specs.Asked.{Orders}
 use Rattle.fl_history.specs.declared.history.Line.{Line}
 use Rattle.fl_intake.specs.Ends.{TakeSide}
 use Rattle.fl_intake.specs.Often.{Weight}

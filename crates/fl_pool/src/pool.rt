@@ -6,7 +6,7 @@ ghost use Rattle.std.specs.Io.KnownBytes.{Keeps};
 ghost use Rattle.fl_pool.specs.Running.{CanRun, HasRun, HaveWorked, IsInline};
 ghost use Rattle.fl_pool.specs.Working.{HasComeBack, IsFresh, IsIdle, reading};
 ghost use Rattle.fl_workers.specs.Room.{HasBatchFor};
-ghost use Rattle.fl_desk.specs.Asked.{Orders};
+ghost use Rattle.fl_counter.specs.Asked.{Orders};
 
 use crate::crew::{Back, Crew, Worker};
 use core::thread::Stack;

@@ -1,7 +1,7 @@
 //! The copies of the directory that looks read.
 
 ghost use Rattle.std.specs.Prelude.{◌≡◌, ◌↔◌, true, Some, IfOk, IfSome, IsSome};
-ghost use Rattle.fl_core.specs.Replies.{own_replies};
+ghost use Rattle.fl_counter.specs.Tolds.{own_replies};
 ghost use Rattle.fl_core.specs.Step.{next, replies};
 ghost use Rattle.fl_replica.specs.Asks.{present_after};
 ghost use Rattle.fl_order.specs.Order.{only_reads};
@@ -25,7 +25,7 @@ pub struct Update<L: BoardName> {
 
 impl<L: BoardName> Model for Update<L> {
     ghost use Rattle.std.specs.Prelude.{◌≡◌, IfSome};
-    ghost use Rattle.fl_core.specs.Replies.{own_replies};
+    ghost use Rattle.fl_counter.specs.Tolds.{HasRoom, own_replies};
     ghost use Rattle.fl_core.specs.Step.{next, replies};
     ghost use Rattle.fl_replica.specs.Asks.{Extension, present_after};
 
@@ -81,7 +81,6 @@ pub struct Replica<L: BoardName> {
 
 impl<L: BoardName> Model for Replica<L> {
     ghost use Rattle.std.specs.Prelude.{◌≡◌, List};
-    ghost use Rattle.fl_core.specs.Tolds.{HasRoom};
     ghost use Rattle.fl_log.specs.Asked.{Ask};
     ghost use Rattle.fl_replica.specs.Asks.{present_after};
 

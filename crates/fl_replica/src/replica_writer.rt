@@ -2,7 +2,7 @@
 
 ghost use Rattle.std.specs.Prelude.{◌≡◌, ◌<◌, ◌^◌, ◌⊎◌, ◌↔◌, [], true, None, Some, IfOk, IfSome, IsSome, OnOk, OnErr};
 ghost use Rattle.left_right.specs.Handles.{published, pending};
-ghost use Rattle.fl_core.specs.Replies.{own_replies};
+ghost use Rattle.fl_counter.specs.Tolds.{own_replies};
 ghost use Rattle.fl_core.specs.Step.{next, replies};
 ghost use Rattle.fl_replica.specs.Asks.{present_after};
 ghost use Rattle.fl_replica.specs.Inside.Updates.{in_the_end};

@@ -3,7 +3,7 @@ use Rattle.std.proofs.Common.{◌≡◌, List, [], ◌∷◌, ◌++◌, All, map
 use Rattle.std.proofs.lemmas.List.{map-append}
 use Rattle.std.proofs.lemmas.List.Elements.{All-head, All-push, All-tail}
 use Rattle.fl_board.specs.Seats.{Place, front_of}
-use Rattle.fl_desk.specs.Answered.{answered_by}
+use Rattle.fl_counter.specs.Answered.{answered_by}
 use Rattle.fl_log.specs.Appended.{Appended}
 use Rattle.fl_pool.specs.Working.{IsIdle}
 use Rattle.fl_serve.specs.Inside.Seated.{IsUnused, by_place}

@@ -9,8 +9,8 @@ use mathlib.Core.List.{IsPrefix}
 use mathlib.Core.List.Sublistᴰ as sublist
 use Rattle.fl_board.specs.Seats.{Place, front_of}
 use Rattle.fl_board.specs.Shown.{HasAllOf}
-use Rattle.fl_desk.specs.Answered.{Answered, IsAnsweredAfter, answered, answered_by}
-use Rattle.fl_desk.specs.Legal.{step_lines}
+use Rattle.fl_counter.specs.Answered.{Answered, answered, answered_by, step_lines}
+use Rattle.fl_desk.specs.Answered.{IsAnsweredAfter}
 use Rattle.fl_history.specs.declared.history.Line.{Line}
 use Rattle.fl_intake.specs.Often.{Weight}
 use Rattle.fl_log.specs.Appended.{Appended, HasAll as HasAllEntries}

@@ -8,7 +8,7 @@ use Rattle.std.proofs.lemmas.List.Sums.{sum_by-append, sum_by_push}
 use mathlib.Core.List.{nil≢cons, head-eq_of_cons-eq, tail-eq_of_cons-eq}
 use Rattle.fl_board.specs.Seats.{Place}
 use Rattle.fl_desk.specs.Answered.{IsAnsweredAfter}
-use Rattle.fl_desk.specs.Asked.{Orders}
+use Rattle.fl_counter.specs.Asked.{Orders}
 use Rattle.fl_intake.specs.Often.{Weight}
 use Rattle.fl_log.specs.Appended.{Appended}
 use Rattle.fl_pool.specs.Working.{HaveDone, IsDone, Work as WorkAt, idle, some_is, standing_at}
@@ -93,19 +93,19 @@ some_last f works first last now any more is changed so_far =
     ∙ ap (λ b. some_is (map f first) || b) (sym changed)
     ∙ sym (some_more f first now)
 
-abbrev pub InTurn : Type 0
-InTurn = (rules : Rules) (xs ys : Orders) (a b c : Standing) (any more lost gone : Bool)
+abbrev pub InTurn : Rules → Type 0
+InTurn rules = (xs ys : Orders) (a b c : Standing) (any more lost gone : Bool)
     → HasWorked (IsAnsweredAfter rules) xs a b any lost → HasWorked (IsAnsweredAfter rules) ys b c more gone
     → HasWorked (IsAnsweredAfter rules) (xs ++ ys) a c (any || more) (lost || gone)
 
 -- these were handled at the last place
-pub rest_done : InTurn → (rules : Rules) (orders : Weight → ℕ) (rest : Orders) (front places places_now : List Place)
+pub rest_done : (rules : Rules) → InTurn rules → (orders : Weight → ℕ) (rest : Orders) (front places places_now : List Place)
     (place place_now : Place) (sent_front sent sent_now : List Sent) (gave gave_now : Sent) (any lost more gone : Bool)
     → HaveDone by_place (IsAnsweredAfter rules) orders places sent any lost → places ≡ front ++ place ∷ [] → places_now ≡ front ++ place_now ∷ []
     → sent ≡ sent_front ++ gave ∷ [] → sent_now ≡ sent_front ++ gave_now ∷ []
     → HasWorked (IsAnsweredAfter rules) rest (standing_at by_place place gave) (standing_at by_place place_now gave_now) more gone
     → HaveDone by_place (IsAnsweredAfter rules) (λ weight. orders weight + sum_by weight rest) places_now sent_now (any || more) (lost || gone)
-rest_done in_turn rules orders rest front places places_now place place_now sent_front sent sent_now gave gave_now any
+rest_done rules in_turn orders rest front places places_now place place_now sent_front sent sent_now gave gave_now any
     lost more gone so_far was now had has did =
     let split = last_work so_far.works front place sent_front gave (so_far.at ∙ was) (so_far.gave ∙ had) in
     let first = split.0 in
@@ -123,7 +123,7 @@ rest_done in_turn rules orders rest front places places_now place place_now sent
     subst (λ s. HasWorked (IsAnsweredAfter rules) rest s now_at more gone)
     (λ i. standing_at by_place (sym split.4 i) (sym split.6 i)) did in
     let same : last.seat.worker ≡ place_now.worker = ap (λ (p : Place). p.worker) split.4 ∙ sym did.worker in
-    let worked = in_turn rules last.orders rest (idle last.seat.worker) (standing_at by_place last.seat last.sent)
+    let worked = in_turn last.orders rest (idle last.seat.worker) (standing_at by_place last.seat last.sent)
     now_at last.any more last.lost gone (All_last (IsDone by_place (IsAnsweredAfter rules)) first last each) from in record {
       works = first ++ work ∷ [];
       at = map-append (λ (w : Work). w.seat) first (work ∷ []) ∙ ap (λ l. l ++ place_now ∷ []) split.3 ∙ sym now;

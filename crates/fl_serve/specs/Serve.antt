@@ -4,8 +4,9 @@ use Rattle.std.specs.Prelude.{IfSome, IsSome, Some, flat_map, map, sum_by}
 use Rattle.std.specs.Io.KnownBytes.{Keeps}
 use Rattle.std.specs.List.{range_with_len}
 use mathlib.Core.List.{IsPrefix}
-use Rattle.fl_desk.specs.Answered.{IsAnsweredAfter, answered_by}
-use Rattle.fl_desk.specs.Asked.{Orders}
+use Rattle.fl_counter.specs.Answered.{answered_by}
+use Rattle.fl_desk.specs.Answered.{IsAnsweredAfter}
+use Rattle.fl_counter.specs.Asked.{Orders}
 use Rattle.fl_desk.specs.Legal.{IsLegal, orders_asked}
 use Rattle.fl_history.specs.declared.history.Line.{Line}
 use Rattle.fl_intake.specs.Often.{AreAsOften}

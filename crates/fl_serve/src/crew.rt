@@ -108,7 +108,7 @@ pub(crate) fn handed_in<
     };
     let mut post = Post { seat, own };
     let mut replies = replies;
-    orders_are_worked_on_in_turn();
+    orders_are_worked_on_in_turn::<Board<L, P, J>>();
     let failures = handle_all(rt, board, gate, sender, &mut post, &mut replies, &left);
     let Post { seat, own } = post;
     seats.push_reserved(seat);

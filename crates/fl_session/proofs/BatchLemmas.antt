@@ -11,7 +11,8 @@ use Rattle.fl_core.specs.Settling.{Present, present, settled}
 use Rattle.fl_core.specs.State.{Snapshot, View, snapshot_of}
 use Rattle.fl_core.specs.Step.{replies, replies_in, settling}
 use Rattle.fl_desk.specs.Leading.{LeadsTo}
-use Rattle.fl_desk.specs.Legal.{IsLegal, nothing, step, step_lines}
+use Rattle.fl_counter.specs.Answered.{step_lines}
+use Rattle.fl_desk.specs.Legal.{IsLegal, nothing, step}
 use Rattle.fl_desk.specs.Replay.{AllOthers, all_later, state_after}
 use Rattle.fl_history.specs.Recent.{recalled, recent}
 use Rattle.fl_history.specs.declared.history.Line.{Line}

@@ -8,7 +8,8 @@ use mathlib.Core.List.{IsPrefix}
 use Rattle.fl_core.specs.State.{Snapshot, snapshot_of}
 use Rattle.fl_core.specs.Step.{replies, replies_in}
 use Rattle.fl_desk.specs.Leading.{GoesOn, LeadsTo, ends, goes}
-use Rattle.fl_desk.specs.Legal.{IsLegal, nothing, step_lines}
+use Rattle.fl_counter.specs.Answered.{step_lines}
+use Rattle.fl_desk.specs.Legal.{IsLegal, nothing}
 use Rattle.fl_desk.specs.Replay.{state_after}
 use Rattle.fl_history.specs.Recent.{recalled, recent}
 use Rattle.fl_history.specs.declared.history.Line.{Line}

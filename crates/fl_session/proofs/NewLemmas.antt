@@ -4,11 +4,12 @@ use Rattle.std.proofs.Common.{sym, ap, subst, ◌∙◌, arith}
 use Rattle.std.specs.Prelude.{cond, if◌then◌else◌, ◌==◌, ◌≢◌, Result, Ok, Err}
 use Rattle.std.specs.List.{AllByRecursion, filter}
 use Rattle.std.proofs.lemmas.Bool.{eq-eqb, ne_eqb}
-use Rattle.fl_core.specs.Replies.{ended, ended_all, ended_if, ended_with, ending_of, error_of, first_told, own_replies, own_reply, picks}
+use Rattle.fl_core.specs.Replies.{ended, ended_all, ended_if, ended_with, ending_of, error_of, first_told, own_reply, picks}
+use Rattle.fl_counter.specs.Tolds.{own_replies}
 use Rattle.fl_core.specs.Settling.{IsSettled, Present, done, one, present, settled}
 use Rattle.fl_core.specs.State.{Snapshot, snapshot_of}
 use Rattle.fl_core.specs.Step.{after_first, replies}
-use Rattle.fl_desk.specs.Legal.{step_lines}
+use Rattle.fl_counter.specs.Answered.{step_lines}
 use Rattle.fl_desk.specs.Replay.{AllOthers, state_after}
 use Rattle.fl_history.specs.declared.history.Line.{Line}
 use Rattle.fl_history.specs.declared.history.Line.TheVariants as line

@@ -6,7 +6,8 @@ use Rattle.std.specs.List.{filter}
 use Rattle.std.proofs.Math.Nat.{le_trans}
 use Rattle.std.proofs.lemmas.Bool.{eq-eqb, eqb-true}
 use Rattle.fl_core.specs.Effects.{Effect, followed_by, later, replied, told_first}
-use Rattle.fl_core.specs.Replies.{ended, ended_all, ended_if, ended_with, ending_of, error_of, first_told, own_replies, own_reply, picks}
+use Rattle.fl_core.specs.Replies.{ended, ended_all, ended_if, ended_with, ending_of, error_of, first_told, own_reply, picks}
+use Rattle.fl_counter.specs.Tolds.{own_replies}
 use Rattle.fl_core.specs.Settling.{IsSettled, Present, done, one, present, settled}
 use Rattle.fl_core.specs.State.{Snapshot, View}
 use Rattle.fl_core.specs.Step.{after_first, replies}

@@ -8,7 +8,8 @@ use Rattle.std.proofs.lemmas.List.{map-append}
 use Rattle.std.proofs.lemmas.List.Elements.{Contains-append_cases}
 use Rattle.fl_core.specs.State.{Snapshot, snapshot_of}
 use Rattle.fl_core.specs.Step.{replies}
-use Rattle.fl_desk.specs.Legal.{nothing, step_lines}
+use Rattle.fl_counter.specs.Answered.{step_lines}
+use Rattle.fl_desk.specs.Legal.{nothing}
 use Rattle.fl_desk.specs.Replay.{AllOthers, state_after}
 use Rattle.fl_history.specs.Recent.{recalled, recent, with_line}
 use Rattle.fl_history.specs.declared.history.Line.{Line}

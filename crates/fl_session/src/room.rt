@@ -1,7 +1,7 @@
 //! The memory of a session.
 
 ghost use Rattle.std.specs.Prelude.{◌≡◌, [], IfOk};
-ghost use Rattle.fl_core.specs.Tolds.{HasRoom};
+ghost use Rattle.fl_counter.specs.Tolds.{HasRoom};
 
 use fl_core::{Rules, Tolds};
 use fl_order::NoMemory;

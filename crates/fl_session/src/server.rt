@@ -1,8 +1,8 @@
 //! What a session does with each message, apart from reading it.
 
 ghost use Rattle.std.specs.Prelude.{◌≡◌, [], ◌∷◌, ◌++◌, drop, map, false, None, Some, IfSome, IsSome, is_some};
-ghost use Rattle.fl_core.specs.Tolds.{HasRoom};
-ghost use Rattle.fl_desk.specs.Legal.{step_lines};
+ghost use Rattle.fl_counter.specs.Tolds.{HasRoom};
+ghost use Rattle.fl_counter.specs.Answered.{step_lines};
 ghost use Rattle.fl_session.specs.Again.{order_under, unmarked};
 ghost use Rattle.fl_session.specs.Inside.Serving.{IsFresh, IsReady, recalled_at, with_lines};
 ghost use Rattle.fl_session.specs.Inside.UnderWay.{IsAnswered, TakesAgain, TakesMany, TakesOne};

@@ -2,7 +2,7 @@
 use Rattle.std.proofs.Common.{◌≡◌, ℕ, ◌+◌, inl, inr, Bool, false, [], ◌∷◌, ◌++◌, Option, take}
 use Rattle.std.proofs.Common.{refl, sym, ap, ◌∙◌, subst, append_assoc, append-nil}
 use Rattle.std.specs.Prelude.{IfSome, None, Some, slice_get, ◌||◌}
-use Rattle.fl_desk.specs.Asked.{Orders}
+use Rattle.fl_counter.specs.Asked.{Orders}
 use Rattle.fl_order.specs.declared.order.Order.{Order}
 use Rattle.fl_transport.specs.Said.{orders_in}
 use Rattle.fl_transport.specs.declared.handshake.Incoming.{Incoming}

@@ -1,9 +1,8 @@
 -- What became of orders that were handed in together.
 use Rattle.std.proofs.Common.{◌≡◌, ℕ, ◌+◌, ◌<◌, ◌≤◌, Bool, false, List, [], ◌∷◌, ◌++◌, map, take, length}
 use Rattle.std.proofs.Common.{refl, sym, ap, ◌∙◌, arith, subst}
-use Rattle.fl_desk.specs.Answered.{Answered, AreAnsweredLast, AreBehind, answered, answered_by}
-use Rattle.fl_desk.specs.Asked.{Orders}
-use Rattle.fl_desk.specs.Legal.{step_lines}
+use Rattle.fl_counter.specs.Answered.{Answered, AreAnsweredLast, AreBehind, answered, answered_by, step_lines}
+use Rattle.fl_counter.specs.Asked.{Orders}
 use Rattle.fl_history.specs.declared.history.Line.{Line}
 use Rattle.fl_log.specs.Growing.{Grows}
 use Rattle.fl_order.specs.declared.told.Told.{Told}

@@ -4,9 +4,8 @@ use Rattle.std.proofs.Common.{refl, sym, ap, ◌∙◌, subst, append_assoc, app
 use Rattle.std.specs.Prelude.{◌||◌}
 use Rattle.std.proofs.lemmas.List.{map-append}
 use mathlib.Core.List.{IsPrefix}
-use Rattle.fl_desk.specs.Answered.{Answered, answered, answered_by}
-use Rattle.fl_desk.specs.Asked.{Orders}
-use Rattle.fl_desk.specs.Legal.{step_lines}
+use Rattle.fl_counter.specs.Answered.{Answered, answered, answered_by, step_lines}
+use Rattle.fl_counter.specs.Asked.{Orders}
 use Rattle.fl_history.specs.declared.history.Line.{Line}
 use Rattle.fl_log.specs.Growing.{Grows}
 use Rattle.fl_order.specs.Order.{kind_of, only_reads}

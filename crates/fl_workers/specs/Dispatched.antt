@@ -1,6 +1,6 @@
 -- Where the receiver's orders went: to the intake, or to the inline worker, which works in the receiver's thread.
 use Rattle.std.specs.Prelude.{◌≡◌, ℕ, ◌⊎◌, Bool, [], ◌∷◌, ◌++◌, Option, None, Some}
-use Rattle.fl_desk.specs.Asked.{Orders}
+use Rattle.fl_counter.specs.Asked.{Orders}
 use Rattle.fl_intake.specs.Ends.{TakeSide}
 use Rattle.fl_workers.specs.Worked.{HasWorked, Shows, Standing}
 

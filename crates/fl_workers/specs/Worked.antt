@@ -1,9 +1,8 @@
 -- What a worker does with the orders that it takes, and what it gives to be sent for each.
 use Rattle.std.specs.Prelude.{◌≡◌, ℕ, Bool, true, false, List, [], ◌∷◌, ◌++◌, map, Result, ◌||◌}
 use mathlib.Core.List.{IsPrefix, Sublistᴰ}
-use Rattle.fl_desk.specs.Answered.{Answered, answered, answered_by}
-use Rattle.fl_desk.specs.Asked.{Orders}
-use Rattle.fl_desk.specs.Legal.{step_lines}
+use Rattle.fl_counter.specs.Answered.{Answered, answered, answered_by, step_lines}
+use Rattle.fl_counter.specs.Asked.{Orders}
 use Rattle.fl_history.specs.declared.history.Line.{Line}
 use Rattle.fl_log.specs.Appended.{Appended}
 use Rattle.fl_log.specs.Growing.{Grows}

@@ -6,7 +6,7 @@ ghost use Rattle.fl_workers.specs.Dispatched.{DispatchesMore};
 use crate::inline::InlineWorker;
 use crate::sender::{SharedSender, WriterName};
 use crate::worker::flush;
-use fl_desk::{Counter, Gate};
+use fl_counter::{Counter, Gate};
 use fl_intake::{Intake, PutEnd};
 use fl_order::Order;
 use fl_wire::Batch;

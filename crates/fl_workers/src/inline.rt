@@ -8,7 +8,7 @@ ghost use Rattle.fl_workers.specs.Worked.{standing};
 use crate::room::BatchRoom;
 use crate::sender::{SharedSender, WriterName};
 use crate::worker::{Failures, Post, handle_all};
-use fl_desk::{Counter, Gate};
+use fl_counter::{Counter, Gate};
 use fl_intake::{Intake, TakeEnd};
 use fl_order::Order;
 use std::io::Write;

@@ -26,7 +26,7 @@ mod worker;
 
 pub use dispatcher::Dispatcher;
 pub use entry::{Reply, ReplyEntry};
-pub use fl_desk::{Counter, Gate, OpenGate};
+pub use fl_counter::{Counter, Gate, OpenGate};
 pub use inline::InlineWorker;
 pub use receiver::{Received, receive_all};
 pub use room::{BatchRoom, ReplyRoom};

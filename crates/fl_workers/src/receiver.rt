@@ -1,7 +1,7 @@
 //! How the receiver of a session with workers reads its stream.
 
 ghost use Rattle.std.specs.Prelude.{◌≡◌, ◌≢◌, ◌∷◌, [], IfSome, Some, true, false};
-ghost use Rattle.fl_desk.specs.Asked.{Orders};
+ghost use Rattle.fl_counter.specs.Asked.{Orders};
 ghost use Rattle.fl_transport.specs.Handshake.{advanced, incoming_of, opening};
 ghost use Rattle.fl_transport.specs.Inbox.{IsUnread};
 ghost use Rattle.fl_transport.specs.Response.{goodbye_to};
@@ -14,7 +14,7 @@ use crate::dispatcher::Dispatcher;
 use crate::entry::ReplyEntry;
 use crate::inline::InlineWorker;
 use crate::sender::WriterName;
-use fl_desk::{Counter, Gate};
+use fl_counter::{Counter, Gate};
 use fl_intake::PutEnd;
 use fl_log::Appender;
 use fl_transport::{Fault, Filled, Handshake, Inbox, Incoming, Response};

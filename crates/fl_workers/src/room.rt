@@ -3,10 +3,10 @@
 ghost use Rattle.std.specs.Prelude.{◌≡◌, ◌+◌, vec_capacity, IfOk};
 ghost use Rattle.fl_workers.specs.Room.{HasRoomFor, HasBatchFor};
 
-use fl_core::{Rules, Tolds};
-use fl_desk::{MOST_IN_BATCH, ToldLists};
+use fl_counter::{MOST_IN_BATCH, ToldLists, Tolds};
 use fl_intake::Job;
 use fl_order::NoMemory;
+use fl_waiting::Rules;
 use std::alloc::Global;
 
 /// Room for the replies to a batch of orders.

@@ -3,7 +3,7 @@
 ghost use Rattle.std.specs.Prelude.{◌≡◌, ◌<◌, ◌≤◌, ◌++◌, ◌∷◌, [], true, false, ◌||◌, length, take, vec_capacity};
 ghost use Rattle.std.specs.Prelude.{IfSome, IsSome};
 ghost use mathlib.Core.List.{IsPrefix};
-ghost use Rattle.fl_desk.specs.Answered.{answered_by};
+ghost use Rattle.fl_counter.specs.Answered.{answered_by};
 ghost use Rattle.fl_order.specs.Order.{kind_of, only_reads};
 ghost use Rattle.fl_transport.specs.Response.{lost};
 ghost use Rattle.fl_workers.specs.Inside.Lists.{entries_for};
@@ -14,7 +14,7 @@ ghost use Rattle.fl_workers.specs.Worked.{HasDone, HasWorked, standing};
 use crate::entry::ReplyEntry;
 use crate::room::{BatchRoom, ReplyRoom};
 use crate::sender::{SharedSender, WriterName};
-use fl_desk::{Counter, Gate, NoView, Outgoing, ToldLists};
+use fl_counter::{Counter, Gate, NoView, Outgoing, ToldLists};
 use fl_intake::{Intake, Job, TakeEnd};
 use fl_log::Appender;
 use fl_order::{Order, Told};

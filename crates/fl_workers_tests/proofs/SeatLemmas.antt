@@ -4,8 +4,7 @@ use Rattle.std.proofs.Common.{length, get_or, subst, refl, sym, ap, ◌∙◌, a
 use Rattle.std.proofs.lemmas.Bool.Decides.{nat_tests}
 use Rattle.std.specs.Prelude.{◌↔◌, if◌then◌else◌}
 use mathlib.Core.List.{IsPrefix}
-use Rattle.fl_desk.specs.Answered.{Answered, AreAnsweredLast, AreBehind, IsAnsweredLast, answered, answered_by, first_tolds}
-use Rattle.fl_desk.specs.Legal.{step_lines}
+use Rattle.fl_counter.specs.Answered.{Answered, AreAnsweredLast, AreBehind, IsAnsweredLast, answered, answered_by, first_tolds, step_lines}
 use Rattle.fl_history.specs.declared.history.Line.{Line}
 use Rattle.fl_history.specs.declared.history.Line.TheVariants as line
 use Rattle.fl_order.specs.declared.order.Order.{Order}

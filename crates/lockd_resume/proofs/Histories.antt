@@ -7,7 +7,8 @@ use Rattle.std.proofs.lemmas.List.Elements.{All-append, All-cons, All-contains_i
 use Rattle.fl_core.specs.Effects.{at_once, later, recorded, told_first}
 use Rattle.fl_core.specs.State.{State, opening}
 use Rattle.fl_core.specs.Step.{replies_in}
-use Rattle.fl_desk.specs.Legal.{IsLegal, nothing, step, step_lines}
+use Rattle.fl_counter.specs.Answered.{step_lines}
+use Rattle.fl_desk.specs.Legal.{IsLegal, nothing, step}
 use Rattle.fl_desk.specs.Replay.{Reading, committed, read_line, read_reply, state_after, unread}
 use Rattle.fl_dir.specs.declared.node.Node.{Node}
 use Rattle.fl_history.specs.declared.history.Line.{Line}

@@ -3,7 +3,8 @@ use Rattle.std.proofs.Common.{◌≡◌, ℕ, ◌≤◌, Bool, true, false, if�
 use Rattle.std.specs.List.{fold}
 use Rattle.std.proofs.lemmas.List.Elements.{All-append, All-cons, All-head, All-nil, All-tail}
 use Rattle.fl_core.specs.Step.{replies_in}
-use Rattle.fl_desk.specs.Legal.{IsLegal, nothing, step, step_lines}
+use Rattle.fl_counter.specs.Answered.{step_lines}
+use Rattle.fl_desk.specs.Legal.{IsLegal, nothing, step}
 use Rattle.fl_desk.specs.Replay.{state_after}
 use Rattle.fl_history.specs.declared.history.Line.{Line}
 use Rattle.fl_history.specs.declared.history.Line.TheVariants as line

@@ -10,7 +10,8 @@ use Rattle.fl_core.specs.Effects.{Effect, answered, at_once, by_reply, cleared_o
 use Rattle.fl_core.specs.Effects.{listing_answered, listing_unanswered, locked, locks_answered, made, recorded, released, replied, request_of}
 use Rattle.fl_core.specs.Effects.{told_first, unanswered, unlocked, waited_for, with_waiter}
 use Rattle.fl_core.specs.Replies.{ask_error, at_once_unless, ended, ended_all, ended_by, ended_if, ended_with, ending_of, error_of, file_reply, is_malformed}
-use Rattle.fl_core.specs.Replies.{first_told, getlk_reply, interrupt_reply, lock_answer, own_replies, own_reply, picks, reply_to, room_reply}
+use Rattle.fl_core.specs.Replies.{first_told, getlk_reply, interrupt_reply, lock_answer, own_reply, picks, reply_to, room_reply}
+use Rattle.fl_counter.specs.Tolds.{own_replies}
 use Rattle.fl_core.specs.Replies.{set_reply, setlk_reply, setlkw_reply, taken_reply, test_reply, type_of, wait_reply}
 use Rattle.fl_core.specs.Settling.{Present, Settled, answered_first, free_behind, granted_told, marking_granted, oldest_free, settled, settled_within}
 use Rattle.fl_core.specs.State.{Snapshot, State, View, opening, snapshot_of}

@@ -4,8 +4,7 @@ use mathlib.Core.List.{IsPrefix}
 use Rattle.fl_board.specs.Seats.{Place}
 use Rattle.fl_core.specs.State.{Snapshot, opening, snapshot_of}
 use Rattle.fl_core.specs.Step.{replies}
-use Rattle.fl_desk.specs.Answered.{answered_by}
-use Rattle.fl_desk.specs.Legal.{step_lines}
+use Rattle.fl_counter.specs.Answered.{answered_by, step_lines}
 use Rattle.fl_history.specs.declared.history.Line.{Line}
 use Rattle.fl_log.specs.Asked.{Ask}
 use Rattle.fl_replica.specs.Asks.{stepped}

@@ -1,7 +1,7 @@
 //! A board, and what its seats are shown.
 
 ghost use Rattle.std.specs.Prelude.{◌≡◌, ◌<◌, ◌≤◌, true};
-ghost use Rattle.fl_core.specs.Tolds.{HasRoom};
+ghost use Rattle.fl_counter.specs.Tolds.{HasRoom};
 ghost use Rattle.fl_order.specs.Order.{only_reads};
 
 mod batches;

@@ -1,7 +1,7 @@
 //! A desk and its history, the text of histories, and what is said of them. `tests/commands/check.py` tries the same
 //! with many texts, over the built program.
 
-ghost use Rattle.fl_core.specs.Tolds.{HasRoom};
+ghost use Rattle.fl_counter.specs.Tolds.{HasRoom};
 
 use fl_book::{
     Desk, History, Line, Rules, TraceFault, Verdict, check, first_line, has_text, laws,

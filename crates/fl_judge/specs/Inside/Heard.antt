@@ -2,7 +2,7 @@
 use Rattle.std.specs.Prelude.{◌≡◌, ◌↔◌, ℕ, ◌-◌, ◌+◌, ◌^◌, ◌≤◌, Bool, true, false, Option, Some, None, List, [], ◌∷◌, ◌++◌}
 use Rattle.std.specs.Prelude.{length, take, drop}
 use Rattle.std.specs.List.{slice_get}
-use Rattle.fl_core.specs.Tolds.{HasRoom, Replies}
+use Rattle.fl_counter.specs.Tolds.{HasRoom, Replies}
 use Rattle.fl_desk.specs.Leading.{LeadsTo}
 use Rattle.fl_desk.specs.Legal.{IsLegal, orders_asked}
 use Rattle.fl_desk.specs.Verdicts.{IsBeginning}

@@ -1,7 +1,7 @@
 -- The seats of a board, and what a session has for its workers before its first read.
 use Rattle.std.specs.Prelude.{◌≡◌, ℕ, ◌<◌, ◌≤◌, ◌+◌, [], All, length, vec_capacity}
 use Rattle.fl_board.specs.Seats.{Place, front_of}
-use Rattle.fl_desk.specs.Answered.{answered_by}
+use Rattle.fl_counter.specs.Answered.{answered_by}
 use Rattle.fl_pool.specs.Running.{CanRun}
 use Rattle.fl_pool.specs.Working.{IsFresh, Reading, reading}
 use Rattle.fl_pool.specs.declared.crew.Crew.{Crew}

@@ -1,6 +1,6 @@
 -- A server that is under way: what is kept of its session, and what a message changes.
 use Rattle.std.specs.Prelude.{◌≡◌, ℕ, Bool, false, List, ◌++◌, Option, None, Some, is_some, IfSome, if◌then◌else◌}
-use Rattle.fl_core.specs.Tolds.{HasRoom}
+use Rattle.fl_counter.specs.Tolds.{HasRoom}
 use Rattle.fl_desk.specs.Replay.{state_after}
 use Rattle.fl_history.specs.Recent.{recalled, recent}
 use Rattle.fl_history.specs.declared.history.Line.{Line}

@@ -1,7 +1,7 @@
 //! A counter in memory, whose seats keep what is handed in at them.
 
 ghost use Rattle.std.specs.Prelude.{◌≡◌, ◌≤◌, ◌+◌, ◌++◌, [], length, OnErr, OnOk};
-ghost use Rattle.fl_desk.specs.Legal.{step_lines};
+ghost use Rattle.fl_counter.specs.Answered.{step_lines};
 
 use super::came::Came;
 use fl_core::{Core, Rules, Tolds};
@@ -157,7 +157,7 @@ fn append(lines: &mut Lines, worker: u32, order: &Order, tolds: &[Told])
 
 impl Counter for Tally {
     ghost use Rattle.std.specs.Prelude.{length};
-    ghost use Rattle.fl_desk.specs.Answered.{answered_by};
+    ghost use Rattle.fl_counter.specs.Answered.{answered_by};
 
     type Seat = Seat;
 

@@ -1,7 +1,7 @@
 //! Batches of orders that are handed in at once.
 
 ghost use Rattle.std.specs.Prelude.{◌≡◌, ◌<◌, ◌≤◌, ◌+◌};
-ghost use Rattle.fl_core.specs.Tolds.{HasRoom};
+ghost use Rattle.fl_counter.specs.Tolds.{HasRoom};
 
 use super::{closed, has_lines, new_tolds, opened, order};
 use fl_book::{Ask, Board, BoardName, FreshLog, History, NothingOutgoing, Rules, Seat, ToldLists};

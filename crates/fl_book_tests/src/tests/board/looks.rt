@@ -1,7 +1,7 @@
 //! What a look shows to a seat that has no right to wait.
 
 ghost use Rattle.std.specs.Prelude.{◌≡◌};
-ghost use Rattle.fl_core.specs.Tolds.{HasRoom};
+ghost use Rattle.fl_counter.specs.Tolds.{HasRoom};
 
 use super::batches::handed_in;
 use super::{closed, create, has_lines, new_tolds, opened, order, take, upto};

@@ -1,6 +1,6 @@
 use Rattle.std.proofs.Common.{◌≡◌, ◌≤◌, ◌+◌, ◌++◌, length, take}
 use mathlib.Core.List.{IsPrefix}
-use Rattle.fl_desk.specs.Legal.{step_lines}
+use Rattle.fl_counter.specs.Answered.{step_lines}
 use Rattle.fl_desk.proofs.desk.append.Given as goal
 
 -- the order and the replies so far are there, and there is room for the rest

@@ -1,5 +1,5 @@
 use Rattle.std.proofs.Common.{◌≡◌, ◌≤◌, ◌-◌, length, take}
-use Rattle.fl_core.specs.Tolds.{HasRoom}
+use Rattle.fl_counter.specs.Tolds.{HasRoom}
 use Rattle.fl_desk.specs.Kept.{IsKept}
 use Rattle.fl_desk.proofs.judge.judged.Given as goal
 

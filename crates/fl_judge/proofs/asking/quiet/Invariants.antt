@@ -1,5 +1,5 @@
 use Rattle.std.proofs.Common.{take}
-use Rattle.fl_core.specs.Tolds.{HasRoom}
+use Rattle.fl_counter.specs.Tolds.{HasRoom}
 use Rattle.fl_judge.proofs.Runs.{IsRun}
 use Rattle.fl_judge.proofs.asking.quiet.Given as goal
 

@@ -1,5 +1,5 @@
 use Rattle.std.proofs.Common.{◌≡◌, ◌+◌, ◌<◌, ◌≤◌, ◌++◌, ℕ, List, All, length, map, vec_capacity}
-use Rattle.fl_desk.specs.Asked.{Orders}
+use Rattle.fl_counter.specs.Asked.{Orders}
 use Rattle.fl_pool.specs.Running.{HaveWorked}
 use Rattle.fl_pool.specs.Working.{IsFresh, reading}
 use Rattle.fl_pool.proofs.pool.joined.Given as goal

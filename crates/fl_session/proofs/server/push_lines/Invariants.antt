@@ -1,5 +1,5 @@
 use Rattle.std.proofs.Common.{◌≡◌, ◌++◌, take}
-use Rattle.fl_desk.specs.Legal.{step_lines}
+use Rattle.fl_counter.specs.Answered.{step_lines}
 use Rattle.fl_session.proofs.server.push_lines.Given as goal
 
 -- the order and the replies so far are there

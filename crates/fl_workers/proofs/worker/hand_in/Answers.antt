@@ -1,5 +1,5 @@
 use Rattle.std.proofs.Common.{◌<◌, ◌≤◌, [], ◌∷◌, take, length, arith, refl, rules, subst, sym}
-use Rattle.fl_desk.specs.Asked.{Orders}
+use Rattle.fl_counter.specs.Asked.{Orders}
 use Rattle.fl_workers.proofs.HandedLemmas.{few_lists, lists_handed}
 use Rattle.fl_workers.proofs.BatchLemmas.{take_read}
 use Rattle.fl_workers.proofs.WorkedLemmas.{one_refused, then_worked}

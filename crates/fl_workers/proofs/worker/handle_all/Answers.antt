@@ -1,6 +1,6 @@
 use Rattle.std.proofs.Common.{◌≤◌, ◌++◌, ◌∙◌, ap, arith, length, length-drop, subst, sym, take}
 use Rattle.std.proofs.lemmas.List.{take_all, take_rest}
-use Rattle.fl_desk.specs.Asked.{Orders}
+use Rattle.fl_counter.specs.Asked.{Orders}
 use Rattle.fl_workers.proofs.BatchLemmas.{take_then}
 use Rattle.fl_workers.proofs.WorkedLemmas.{none_worked, then_worked}
 use Rattle.fl_workers.specs.Worked.{HasWorked, standing}

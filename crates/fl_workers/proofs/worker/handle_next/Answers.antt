@@ -1,6 +1,6 @@
 use Rattle.std.proofs.Common.{◌≤◌, ◌∙◌, [], false, take, ap, arith, refl, subst, sym}
 use Rattle.std.proofs.lemmas.List.{take-take}
-use Rattle.fl_desk.specs.Asked.{Orders}
+use Rattle.fl_counter.specs.Asked.{Orders}
 use Rattle.fl_workers.proofs.BatchLemmas.{take_first}
 use Rattle.fl_workers.proofs.WorkedLemmas.{looked_in_vain, one_looked, then_worked}
 use Rattle.fl_workers.specs.Worked.{HasWorked, standing}

@@ -1,5 +1,5 @@
 use Rattle.std.proofs.Common.{◌≡◌, take, map, filter}
-use Rattle.fl_core.specs.Tolds.{HasRoom}
+use Rattle.fl_counter.specs.Tolds.{HasRoom}
 use Rattle.fl_desk.specs.Legal.{is_asked}
 use Rattle.lockd_commands.specs.Script.{line_of}
 use Rattle.lockd_commands.proofs.script.take_each.Given as goal

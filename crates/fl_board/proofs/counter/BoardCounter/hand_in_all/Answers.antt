@@ -2,7 +2,7 @@ use Rattle.std.proofs.Common.{ap}
 use Rattle.fl_board.proofs.Batches.{handed_in_answered, handed_same, none_handed}
 use Rattle.fl_board.proofs.Fronts.{handed_in_behind}
 use Rattle.fl_board.specs.Seats.{Place}
-use Rattle.fl_desk.specs.Answered.{answered_by}
+use Rattle.fl_counter.specs.Answered.{answered_by}
 use Rattle.fl_board.proofs.counter.BoardCounter.hand_in_all.Goals as goal
 
 pub returns-clause-own : goal.returns-clause-own

@@ -1,5 +1,5 @@
 use Rattle.std.proofs.Common.{◌≡◌, ℕ, ◌↔◌, ◌+◌, Option, None, Some, IfSome, Result, List, ◌∷◌, [], ◌++◌, refl, ap, sym, ◌∙◌, subst, arith}
-use Rattle.fl_core.specs.Replies.{own_replies}
+use Rattle.fl_counter.specs.Tolds.{own_replies}
 use Rattle.fl_core.specs.State.{Snapshot, snapshot_of}
 use Rattle.fl_core.specs.Step.{next, replies, replies_in}
 use Rattle.fl_history.specs.declared.history.Line.{Line}
@@ -7,7 +7,8 @@ use Rattle.fl_order.specs.declared.errno.Errno.{Errno}
 use Rattle.fl_order.specs.declared.order.Order.{Order}
 use Rattle.fl_order.specs.declared.told.Answer.{Answer}
 use Rattle.fl_order.specs.declared.told.Told.{Told}
-use Rattle.fl_desk.specs.Legal.{step_lines, orders_asked}
+use Rattle.fl_counter.specs.Answered.{step_lines}
+use Rattle.fl_desk.specs.Legal.{orders_asked}
 use Rattle.fl_desk.specs.Replay.{state_after}
 use Rattle.fl_log.specs.Asked.{Ask}
 use Rattle.fl_waiting.specs.declared.rules.Rules.{Rules}

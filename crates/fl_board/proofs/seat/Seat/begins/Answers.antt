@@ -4,7 +4,7 @@ use Rattle.fl_board.proofs.Answering.{answered_begins}
 use Rattle.fl_board.proofs.Counts.{no_longer}
 use Rattle.fl_board.proofs.Histories.{asks_begin, history_begins}
 use Rattle.fl_board.specs.Inside.Asks.{history_of}
-use Rattle.fl_desk.specs.Answered.{answered_by}
+use Rattle.fl_counter.specs.Answered.{answered_by}
 use Rattle.fl_board.proofs.seat.Seat.begins.Goals as goal
 
 pub returns-then-begins-clause-short : goal.returns-then-begins-clause-short

@@ -1,5 +1,5 @@
 use Rattle.std.proofs.Common.{rules, ◌≡◌, Some, refl, ap, sym, ◌∙◌}
-use Rattle.fl_core.specs.Replies.{own_replies}
+use Rattle.fl_counter.specs.Tolds.{own_replies}
 use Rattle.fl_core.specs.State.{Snapshot}
 use Rattle.fl_core.specs.Step.{replies}
 use Rattle.fl_replica.specs.Asks.{present_after}

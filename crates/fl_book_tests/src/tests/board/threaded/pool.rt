@@ -1,7 +1,7 @@
 //! A board whose seats are in threads of their own, one or more in each.
 
 ghost use Rattle.std.specs.Prelude.{◌≡◌, ◌<◌, ◌≤◌};
-ghost use Rattle.fl_core.specs.Tolds.{HasRoom};
+ghost use Rattle.fl_counter.specs.Tolds.{HasRoom};
 
 use super::super::{create, is_judged, new_tolds, order, see, take};
 use super::{rounds, watched};

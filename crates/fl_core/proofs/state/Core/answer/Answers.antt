@@ -1,5 +1,6 @@
 use Rattle.std.proofs.Common.{◌≡◌, ◌∙◌, true, false, cond, refl, sym, subst, ap}
-use Rattle.fl_core.specs.Replies.{own_replies, reply_to, taken_reply}
+use Rattle.fl_core.specs.Replies.{reply_to, taken_reply}
+use Rattle.fl_counter.specs.Tolds.{own_replies}
 use Rattle.fl_core.specs.State.{Snapshot}
 use Rattle.fl_waiting.specs.Waiting.{is_parked, AllWait}
 use Rattle.fl_core.specs.declared.state.Core.TheInside.{Inside}

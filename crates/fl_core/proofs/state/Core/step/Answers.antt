@@ -2,7 +2,8 @@ use Rattle.std.proofs.Common.{◌≡◌, ◌+◌, ◌++◌, ◌≤◌, ◌∙◌
 use Rattle.std.proofs.Common.{ap, arith}
 use Rattle.fl_core.specs.Effects.{by_reply, replied, recorded, made}
 use Rattle.fl_core.specs.Inside.Touched.{OthersWait}
-use Rattle.fl_core.specs.Replies.{own_replies, ended_by, reply_to}
+use Rattle.fl_core.specs.Replies.{ended_by, reply_to}
+use Rattle.fl_counter.specs.Tolds.{own_replies}
 use Rattle.fl_core.specs.State.{Snapshot, snapshot_of}
 use Rattle.fl_core.specs.Step.{settling, ChangesNothing}
 use Rattle.fl_core.specs.declared.state.Core.TheInside.{Inside}

@@ -1,5 +1,5 @@
 use Rattle.std.proofs.Common.{◌≡◌, ◌≤◌, length}
-use Rattle.fl_desk.specs.Asked.{Orders}
+use Rattle.fl_counter.specs.Asked.{Orders}
 use Rattle.fl_transport.specs.Inbox.{work}
 use Rattle.fl_workers.specs.Dispatched.{AreDispatched}
 use Rattle.fl_workers.specs.Inside.Receiving.{IsReceiving, so_far}

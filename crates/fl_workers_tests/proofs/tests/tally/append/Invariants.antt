@@ -1,5 +1,5 @@
 use Rattle.std.proofs.Common.{◌≡◌, ◌≤◌, ◌+◌, ◌++◌, length, take}
-use Rattle.fl_desk.specs.Legal.{step_lines}
+use Rattle.fl_counter.specs.Answered.{step_lines}
 use Rattle.fl_workers_tests.proofs.tests.tally.append.Given as goal
 
 -- the order and the replies so far are there, and there is room for the rest

@@ -1,6 +1,5 @@
 use Rattle.std.proofs.Common.{◌≡◌, ◌∙◌, ◌+◌, ◌<◌, ◌++◌, [], ◌∷◌, ap, arith, get_or, length, length-append, subst, sym}
-use Rattle.fl_desk.specs.Answered.{AreAnsweredLast, AreBehind, answered_by}
-use Rattle.fl_desk.specs.Legal.{step_lines}
+use Rattle.fl_counter.specs.Answered.{AreAnsweredLast, AreBehind, answered_by, step_lines}
 use Rattle.fl_workers_tests.proofs.SeatLemmas.{answered_last, answered_more, behind_more}
 use Rattle.fl_workers_tests.proofs.tests.tally.TallyCounter.hand_in_all.Goals as goal
 

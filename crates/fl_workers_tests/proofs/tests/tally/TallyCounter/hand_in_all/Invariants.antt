@@ -1,5 +1,5 @@
 use Rattle.std.proofs.Common.{◌≡◌, ◌+◌, [], length}
-use Rattle.fl_desk.specs.Answered.{AreAnsweredLast, AreBehind, answered_by}
+use Rattle.fl_counter.specs.Answered.{AreAnsweredLast, AreBehind, answered_by}
 use Rattle.fl_workers_tests.proofs.tests.tally.TallyCounter.hand_in_all.Given as goal
 
 -- the orders so far are answered, each with its list, and stand behind the lines that there were

@@ -1,5 +1,5 @@
 use Rattle.std.proofs.Common.{◌≡◌, ◌++◌, take, vec_capacity}
-use Rattle.fl_desk.proofs.told_lists.copy_to.Given as goal
+use Rattle.fl_counter.proofs.told_lists.copy_to.Given as goal
 
 -- the replies so far are there, and the room is the same
 abbrev pub invariant-loop-told : goal.invariant-loop-told

@@ -3,8 +3,8 @@
 ghost use Rattle.std.specs.Prelude.{◌≡◌, ◌<◌, ◌≤◌, ◌+◌, ◌↔◌, [], ◌∷◌, ◌++◌, true, Some, length, vec_capacity, IfOk};
 ghost use Rattle.std.specs.List.{slice_get};
 
-use fl_core::Rules;
 use fl_order::{NoMemory, Told};
+use fl_waiting::Rules;
 use std::alloc::Global;
 use std::marker::Model;
 
@@ -29,7 +29,7 @@ struct Span {
 
 impl Model for ToldLists {
     ghost use Rattle.std.specs.Prelude.{◌+◌, ◌-◌, ◌≤◌, All, drop, length, map, take, vec_capacity};
-    ghost use Rattle.fl_desk.specs.Lists.{Lists};
+    ghost use Rattle.fl_counter.specs.Lists.{Lists};
 
     ghost Value = { Lists };
 

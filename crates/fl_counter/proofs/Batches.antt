@@ -3,7 +3,7 @@ use Rattle.std.proofs.Common.{◌≡◌, ◌+◌, ◌≤◌, List, [], ◌∷◌
 use Rattle.std.proofs.Math.Seq.{drop-append_seam, take-length}
 use Rattle.std.proofs.lemmas.List.{drop-append-le, length-drop, take-append-le}
 use Rattle.std.proofs.lemmas.List.Elements.{All-head, All-tail}
-use Rattle.fl_desk.specs.declared.told_lists.Span.{Span}
+use Rattle.fl_counter.specs.declared.told_lists.Span.{Span}
 use Rattle.fl_order.specs.declared.told.Told.{Told}
 
 -- what stands at a place

@@ -2,7 +2,7 @@
 
 ghost use Rattle.std.specs.Prelude.{◌≡◌, ◌<◌, ◌≤◌, ℕ, ◌+◌, true, length, List, Result, IfOk, OnOk, OnErr};
 ghost use mathlib.Core.List.{IsPrefix};
-ghost use Rattle.fl_desk.specs.Answered.{Answered, AreAnsweredLast, AreBehind, answered_by};
+ghost use Rattle.fl_counter.specs.Answered.{Answered, AreAnsweredLast, AreBehind, answered_by};
 ghost use Rattle.fl_history.specs.declared.history.Line.{Line};
 ghost use Rattle.fl_order.specs.Order.{only_reads};
 ghost use Rattle.fl_order.specs.declared.errno.Errno.{Errno};
@@ -11,7 +11,7 @@ ghost use Rattle.fl_order.specs.declared.told.Answer.{Answer};
 
 use crate::fault::{HandFault, NoView};
 use crate::told_lists::ToldLists;
-use fl_core::Tolds;
+use crate::tolds::Tolds;
 use fl_order::{Answer, Errno, Order};
 use std::sync::Wait;
 

@@ -1,7 +1,7 @@
 use Rattle.std.proofs.Common.{rules, ◌≡◌, ◌++◌, ◌∷◌, [], length, refl}
-use Rattle.fl_desk.proofs.Batches.{lists_more}
-use Rattle.fl_desk.specs.declared.told_lists.Span.{Span}
-use Rattle.fl_desk.proofs.told_lists.ToldLists.push.Goals as goal
+use Rattle.fl_counter.proofs.Batches.{lists_more}
+use Rattle.fl_counter.specs.declared.told_lists.Span.{Span}
+use Rattle.fl_counter.proofs.told_lists.ToldLists.push.Goals as goal
 
 pub returns-clause-lists : goal.returns-clause-lists
 returns-clause-lists c =

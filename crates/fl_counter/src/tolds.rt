@@ -1,8 +1,7 @@
 //! The list of replies that one order gives, with room for all of them.
 
 ghost use Rattle.std.specs.Prelude.{◌≡◌, ◌<◌, ◌↔◌, [], ◌∷◌, ◌++◌, length, IfOk, Option, Some, Result};
-ghost use Rattle.fl_core.specs.Replies.{own_replies};
-ghost use Rattle.fl_core.specs.Tolds.{HasRoom};
+ghost use Rattle.fl_counter.specs.Tolds.{HasRoom, own_replies};
 ghost use Rattle.fl_order.specs.declared.errno.Errno.{Errno};
 ghost use Rattle.fl_order.specs.declared.told.Answer.{Answer};
 
@@ -19,7 +18,7 @@ pub struct Tolds {
 
 impl Model for Tolds {
     ghost use Rattle.std.specs.Prelude.{vec_capacity};
-    ghost use Rattle.fl_core.specs.Tolds.{Replies};
+    ghost use Rattle.fl_counter.specs.Tolds.{Replies};
 
     ghost Value = { Replies };
 
@@ -64,7 +63,7 @@ impl Tolds {
     }
 
     /// Forgets all replies. The room stays.
-    pub(crate) fn clear(&mut self)
+    pub fn clear(&mut self)
         ensures told { self.new.told ≡ [] }
         ensures room { self.new.room ≡ self.old.room }
     {
@@ -72,7 +71,7 @@ impl Tolds {
     }
 
     /// One reply more, after the others.
-    pub(crate) fn push(&mut self, told: Told)
+    pub fn push(&mut self, told: Told)
         requires { length self.old.told < self.old.room }
         ensures told { self.new.told ≡ self.old.told ++ (told ∷ []) }
         ensures room { self.new.room ≡ self.old.room }

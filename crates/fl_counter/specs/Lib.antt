@@ -1,0 +1,4 @@
+pub mod Answered
+pub mod Asked
+pub mod Lists
+pub mod Tolds
