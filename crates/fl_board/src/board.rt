@@ -133,13 +133,17 @@ impl<L: BoardName, R: Wait + Drop + Copy, J: Journal> Board<L, R, J> {
         let Ok(shared) = Shared::over(alloc, rt, journal, book, log, workers as usize, rules) else {
             return Err(OpenFault::NoMemory);
         };
-        let seats = seats_of(
+        let made = seats_of(
             alloc,
             &shared.record.writer,
             &shared.record.all,
             rest,
             workers,
-        )?;
+        );
+        let seats = match made {
+            Ok(seats) => seats,
+            Err(fault) => return Err(fault),
+        };
         let Ok(shared) = Box::new(alloc, shared) else {
             return Err(OpenFault::NoMemory);
         };
@@ -208,7 +212,7 @@ impl<L: BoardName, R: Wait + Drop + Copy, J: Journal> Board<L, R, J> {
     {
         let (taken, stored) = {
             let mut shared = self.shared.lock(rt);
-            shared.cool_if_idle(self.was_read(), orders.len());
+            shared.cool_if_idle(was_read(&self.looked), orders.len());
             let taken = shared.hand_in_all(seat, orders, tolds, lists);
             let stored = lists.count() == 0 || shared.store_if_due(seat);
             (taken, stored)
@@ -234,22 +238,6 @@ impl<L: BoardName, R: Wait + Drop + Copy, J: Journal> Board<L, R, J> {
         unreachable!()
     }
 
-    // Whether somebody looked since this was asked last.
-    fn was_read(&self) -> bool {
-        let looked = self.looked.load(Ordering::SeqCst);
-        if looked {
-            self.looked.store(false, Ordering::SeqCst);
-        }
-        looked
-    }
-
-    // Somebody looks.
-    fn note_look(&self) {
-        if !self.looked.load(Ordering::SeqCst) {
-            self.looked.store(true, Ordering::SeqCst);
-        }
-    }
-
     /// As `Seat::look`: it needs nothing of the board but what is published. Nothing is once nobody has looked for many
     /// orders that were handed in together: then `warm` makes it anew, and it stays.
     pub fn look(&self, seat: &mut Seat<L>, order: &Order) -> Result<Result<Answer, Errno>, NoView>
@@ -258,7 +246,7 @@ impl<L: BoardName, R: Wait + Drop + Copy, J: Journal> Board<L, R, J> {
         ensures shown { IfOk result (λ answer. IsShown L.rules seat.old order.now answer seat.new) }
         ensures refused { OnErr result (seat.new ≡ seat.old) }
     {
-        self.note_look();
+        note_look(&self.looked);
         seat.look(order)
     }
 
@@ -267,7 +255,7 @@ impl<L: BoardName, R: Wait + Drop + Copy, J: Journal> Board<L, R, J> {
     pub fn warm<W: Wait>(&self, rt: &W, seat: &mut Seat<L>)
         ensures { seat.new ≡ seat.old }
     {
-        self.note_look();
+        note_look(&self.looked);
         let mut shared = self.shared.lock(rt);
         shared.warm(self.alloc, seat);
     }
@@ -378,6 +366,22 @@ impl<L: BoardName, R: Wait + Drop + Copy> Board<L, R> {
             Ok(lines) => Ok(History::of(lines)),
             Err(fault) => Err(fault),
         }
+    }
+}
+
+// Whether somebody looked since this was asked last.
+fn was_read(looked: &AtomicBool) -> bool {
+    let was = looked.load(Ordering::SeqCst);
+    if was {
+        looked.store(false, Ordering::SeqCst);
+    }
+    was
+}
+
+// Somebody looks.
+fn note_look(looked: &AtomicBool) {
+    if !looked.load(Ordering::SeqCst) {
+        looked.store(true, Ordering::SeqCst);
     }
 }
 

@@ -11,10 +11,10 @@ ghost use Rattle.fl_log.specs.Asked.{Ask as Handed, ask_of};
 
 use crate::asks::asks_lead;
 use crate::seat::Seat;
-use fl_core::{Rules, Tolds};
-use fl_desk::{Desk, HandFault, MOST_IN_BATCH, ToldLists};
+use fl_core::Tolds;
+use fl_desk::{Desk, HandFault, ToldLists};
 use fl_history::Journal;
-use fl_log::{AsAsk, Ask, Asking, Beginning, FreshLog, Log, MOST_ENTRIES};
+use fl_log::{AsAsk, Ask, Asking, Beginning, Log, MOST_ENTRIES};
 use fl_order::{NoMemory, Order};
 use fl_replica::{BoardName, ReplicaWriter};
 use std::alloc::Global;
@@ -51,42 +51,6 @@ impl<L: BoardName, R: Wait + Drop + Copy, J: Journal> Model for Record<L, R, J> 
 }
 
 impl<L: BoardName, R: Wait + Drop + Copy, J: Journal> Record<L, R, J> {
-    /// The record of a board that has taken no order, with a place for so many readers. `rt` waits for these.
-    pub(crate) fn over(
-        alloc: Global,
-        rt: R,
-        journal: J,
-        ledger: Book<L>,
-        log: FreshLog<Ask>,
-        readers: usize,
-        rules: Rules,
-    ) -> Result<Record<L, R, J>, NoMemory>
-    where
-        J: Drop,
-        requires none { J.lines journal ≡ [] }
-        requires ledger { ledger.total ≡ 0 }
-        requires log { log ≡ L.log }
-        requires readers { (0 < readers) × (readers < 2 ^ 32) }
-        requires rules { rules ≡ L.rules }
-        ensures { IfOk result (λ made. made ≡ record { asks = []; shown = Some []; stored = J.stored journal }) }
-    {
-        let Ok(desk) = Desk::over(alloc, journal, rules) else {
-            return Err(NoMemory);
-        };
-        let (log, all) = log.named::<L>();
-        let made = ReplicaWriter::new(alloc, rt, desk.present(), &all, readers, MOST_IN_BATCH);
-        let Ok(writer) = made else {
-            return Err(NoMemory);
-        };
-        Ok(Record {
-            desk,
-            book: ledger,
-            log,
-            all,
-            writer,
-        })
-    }
-
     /// The most replies that one order is given by the board's rules.
     pub(crate) fn most_tolds(&self) -> usize
         ensures { result ≡ L.rules.parked + 1 }

@@ -16,11 +16,11 @@ use crate::idle::Idle;
 use crate::record::Record;
 use crate::seat::Seat;
 use fl_core::{Rules, Tolds};
-use fl_desk::{HandFault, NoView, ToldLists};
+use fl_desk::{Desk, HandFault, MOST_IN_BATCH, NoView, ToldLists};
 use fl_history::Journal;
 use fl_log::{Ask, Beginning, FreshLog};
 use fl_order::{NoMemory, Order};
-use fl_replica::BoardName;
+use fl_replica::{BoardName, ReplicaWriter};
 use std::alloc::Global;
 use std::marker::Model;
 use std::sync::Wait;
@@ -81,10 +81,22 @@ impl<L: BoardName, R: Wait + Drop + Copy, J: Journal> Shared<L, R, J> {
         requires rules { rules ≡ L.rules }
         ensures { IfOk result (λ shared. shared ≡ record { asks = []; stored = [] }) }
     {
-        let Ok(record) = Record::over(alloc, rt, journal, ledger, log, readers, rules) else {
+        let Ok(desk) = Desk::over(alloc, journal, rules) else {
             return Err(NoMemory);
         };
-        let stored = record.all.again();
+        let (log, all) = log.named::<L>();
+        let made = ReplicaWriter::new(alloc, rt, desk.present(), &all, readers, MOST_IN_BATCH);
+        let Ok(writer) = made else {
+            return Err(NoMemory);
+        };
+        let stored = all.again();
+        let record = Record {
+            desk,
+            book: ledger,
+            log,
+            all,
+            writer,
+        };
         Ok(Shared {
             record,
             stored,

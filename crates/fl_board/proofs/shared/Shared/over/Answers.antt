@@ -1,10 +1,22 @@
-use Rattle.std.proofs.Common.{◌≡◌, [], ◌∙◌, ap, refl}
-use Rattle.fl_board.specs.Inside.Recorded.{Recorded}
+use Rattle.std.proofs.Common.{◌≡◌, [], ◌∙◌, ap, refl, sym}
+use Rattle.fl_board.specs.Inside.Asks.{history_of}
+use Rattle.fl_core.specs.State.{opening, snapshot_of}
+use Rattle.fl_desk.specs.Legal.{orders_asked}
+use Rattle.fl_replica.specs.Asks.{Publication, present_after}
 use Rattle.fl_board.proofs.shared.Shared.over.Goals as goal
+
+pub invariant_of-record : goal.invariant_of-record
+invariant_of-record g c =
+    let ours = g.L.BoardName.rules in
+    let none : [] ≡ c.named-log.result.1 = sym c.named-log.ensures in (
+      ap (λ (p : Publication). p.asks) c.in-Ok-made.ensures ∙ none,
+      c.in-Ok.ensures.lines ∙ ap (history_of ours) none,
+      c.in-Ok.ensures.present ∙ ap (λ r. snapshot_of (opening r)) c.requires.rules ∙ ap (present_after ours) none,
+      c.requires.ledger ∙ sym (ap orders_asked c.in-Ok.ensures.lines),
+    )
 
 pub invariant_of-result : goal.invariant_of-result
 invariant_of-result g c =
-    let made = c.in-Ok.ensures in
-    let none : c.again-stored.result ≡ [] =
-    c.again-stored.ensures ∙ ap (λ (p : Recorded). p.asks) (c.record.view_is ∙ made) in
-    (rw made refl, rw none (_, refl))
+    let none : c.named-log.result.1 ≡ [] = c.named-log.ensures in
+    let stored : c.again-stored.result ≡ [] = c.again-stored.ensures ∙ none in
+    (rw (c.in-Ok-made.ensures, none) refl, rw stored (_, refl))
