@@ -1,12 +1,12 @@
 -- Which histories are those of a single thread, under the rules by which requests wait: each order is answered as the
 -- sequential lock directory answers then.
-use Rattle.std.specs.Prelude.{◌≡◌, ℕ, Bool, true, false, List, [], ◌∷◌, ◌++◌, map, count_by}
+use Rattle.std.specs.Prelude.{◌≡◌, ℕ, Bool, true, false, List, [], ◌++◌, count_by}
 use Rattle.fl_desk.specs.Replay.{state_after}
 use Rattle.fl_core.specs.State.{snapshot_of}
+use Rattle.fl_counter.specs.Answered.{step_lines}
 use Rattle.fl_core.specs.Step.{replies_in}
 use Rattle.fl_history.specs.declared.history.Line.{Line}
 use Rattle.fl_history.specs.declared.history.Line.TheVariants as line
-use Rattle.fl_order.specs.declared.told.Told.{Told}
 use Rattle.fl_order.specs.declared.order.Order.{Order}
 use Rattle.fl_marks.specs.Conflict.{IsLawful}
 use Rattle.fl_waiting.specs.declared.rules.Rules.{Rules}

@@ -25,7 +25,7 @@ pub struct Update<L: BoardName> {
 
 impl<L: BoardName> Model for Update<L> {
     ghost use Rattle.std.specs.Prelude.{◌≡◌, IfSome};
-    ghost use Rattle.fl_counter.specs.Tolds.{HasRoom, own_replies};
+    ghost use Rattle.fl_counter.specs.Tolds.{own_replies};
     ghost use Rattle.fl_core.specs.Step.{next, replies};
     ghost use Rattle.fl_replica.specs.Asks.{Extension, present_after};
 
@@ -81,6 +81,7 @@ pub struct Replica<L: BoardName> {
 
 impl<L: BoardName> Model for Replica<L> {
     ghost use Rattle.std.specs.Prelude.{◌≡◌, List};
+    ghost use Rattle.fl_counter.specs.Tolds.{HasRoom};
     ghost use Rattle.fl_log.specs.Asked.{Ask};
     ghost use Rattle.fl_replica.specs.Asks.{present_after};
 
