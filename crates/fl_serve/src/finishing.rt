@@ -59,18 +59,18 @@ pub(crate) fn unstarted<'w, N: WriterName, W: Write, J: Journal>(
 
 /// Hands in what no worker took, says goodbye, and closes the board of a session whose workers came back.
 pub(crate) fn finish<
-    'a,
     'w,
     L: BoardName,
     N: WriterName,
+    P: Wait + Drop + Copy,
     R: Wait,
     W: Write,
     G: Gate,
     J: Journal + Drop,
 >(
     alloc: Global,
-    pool: WorkerPool<'a, 'w, Board<L, &'a R, J>, N, R, W, G>,
-    ran: Ran<Board<L, &'a R, J>, N>,
+    pool: WorkerPool<'_, 'w, Board<L, P, J>, N, R, W, G>,
+    ran: Ran<Board<L, P, J>, N>,
     replies: ReplyRoom,
 ) -> (Recorded<J>, &'w mut W)
     requires parts { (L.workers ≡ L.parts) × (ran.received.put.takers + 1 ≡ N.parts) }

@@ -136,19 +136,20 @@ where
     let log = FreshLog::new();
     let sending = Blank::new(u64::from(staff.workers) + 1);
     let given = FreshLog::new();
-    let (recorded, w) = run_at::<Brand, Brand, R, I, W, G, J>(
-        rt, alloc, blank, log, sending, given, r, w, gate, staff, journal,
+    let (recorded, w) = run_at::<Brand, Brand, &R, R, I, W, G, J>(
+        rt, rt, alloc, blank, log, sending, given, r, w, gate, staff, journal,
     );
     // No effect at run time: the proof reads here what the writer holds.
     let _ = &*w;
     recorded
 }
 
-// The same at a board of this name, and with a writer of that name.
+// The same at a board of this name, which waits by `handle`, and with a writer of that name.
 fn run_at<
     'w,
     L: BoardName + Send + Sync,
     N: WriterName + Send + Sync,
+    P: Wait + Drop + Copy + Send + Sync,
     R: Threads + Wait + Sync,
     I: Read,
     W: Write + Send + Drop,
@@ -156,6 +157,7 @@ fn run_at<
     J: Journal + Send + Drop,
 >(
     rt: &R,
+    handle: P,
     alloc: Global,
     blank: Blank,
     log: FreshLog<Ask>,
@@ -185,9 +187,9 @@ fn run_at<
       held_now = W.contents result.1.now;
     }) result.0 }
 {
-    let (board, seats, stock) = match opened::<L, N, &R, J>(
+    let (board, seats, stock) = match opened::<L, N, P, J>(
         alloc,
-        rt,
+        handle,
         journal,
         blank,
         log,
@@ -224,10 +226,10 @@ fn run_at<
 
 // Runs the workers of a session, and ends it once they came back.
 fn run_pool<
-    'a,
     'w,
     L: BoardName + Send + Sync,
     N: WriterName + Send + Sync,
+    P: Wait + Drop + Copy + Send + Sync,
     R: Threads + Wait + Sync,
     I: Read,
     W: Write + Send + Drop,
@@ -235,11 +237,11 @@ fn run_pool<
     J: Journal + Send + Drop,
 >(
     alloc: Global,
-    pool: WorkerPool<'a, 'w, Board<L, &'a R, J>, N, R, W, G>,
+    pool: WorkerPool<'_, 'w, Board<L, P, J>, N, R, W, G>,
     r: &mut I,
     inbox: Inbox,
     put: PutEnd,
-    crew: Crew<Board<L, &'a R, J>, N>,
+    crew: Crew<Board<L, P, J>, N>,
     own: Appender<N, ReplyEntry>,
     left: ReplyRoom,
 ) -> (Recorded<J>, &'w mut W)
