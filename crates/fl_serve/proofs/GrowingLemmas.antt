@@ -42,16 +42,6 @@ module _ {A : Type 0} where
       sym (all_of more now (grown.among [] (sublist.refl []))
       (omega (arith, total, grown.counted, ap length begins.1, length-append now begins.0)))
 
-  -- one came last
-  pub one_more : (had before now : List A) (count count_now : ℕ) (it : A) → IsPrefix had before
-      → now ≡ before ++ it ∷ [] → count_now ≡ count + 1 → Grows had now count count_now (it ∷ [])
-  one_more had before now count count_now it begins is more = record {
-    counted = more;
-    among = λ some among.
-        let so_far : Sublistᴰ some before = rw (← append-nil some, ← begins.1) (sublist.append among (sublist.nil-sublist begins.0)) in
-        rw is (sublist.append so_far (sublist.refl (it ∷ [])));
-  }
-
 module _ {E : Type 0} (author_of : E → ℕ) (author : ℕ) where
   by_append : (xs ys : List E)
       → entries_by author_of author (xs ++ ys) ≡ entries_by author_of author xs ++ entries_by author_of author ys
@@ -64,21 +54,3 @@ module _ {E : Type 0} (author_of : E → ℕ) (author : ℕ) where
       → IsPrefix (entries_by author_of author xs) (entries_by author_of author ys)
   by_begins xs ys begins =
       (entries_by author_of author begins.0, sym (by_append xs begins.0) ∙ ap (entries_by author_of author) begins.1)
-
-  same_number : (n : ℕ) → (n == n) ≡ true
-  same_number n = grind (arith, nat_tests)
-
-  by_itself : (e : E) → author_of e ≡ author → entries_by author_of author (e ∷ []) ≡ e ∷ []
-  by_itself e is = ap (λ n. (if n == author then e ∷ [] else []) ++ []) is
-      ∙ ap (λ b. (if b then e ∷ [] else []) ++ []) (same_number author)
-
--- an entry was appended, which is its author's last
-pub appended_more : {E : Type 0} (author_of : E → ℕ) (old new : Appended E) (e : E) → author_of e ≡ old.author
-    → IsAppended old e new
-    → Grows (entries_by author_of old.author old.upto) (entries_by author_of old.author new.upto) old.count new.count (e ∷ [])
-appended_more author_of old new e its appended =
-    let by = entries_by author_of old.author in
-    one_more (by old.upto) (by appended.before) (by new.upto) old.count new.count e
-    (by_begins author_of old.author old.upto appended.before appended.had)
-    (ap by appended.upto ∙ by_append author_of old.author appended.before (e ∷ [])
-    ∙ ap (λ l. by appended.before ++ l) (by_itself author_of old.author e its)) appended.count

@@ -10,8 +10,9 @@ use Rattle.std.specs.List.{range_with_len}
 use Rattle.std.specs.Prelude.{IfSome, IsSome, not, ◌&&◌, ◌||◌}
 use Rattle.std.specs.Io.KnownBytes.{Keeps}
 use mathlib.Core.List.{IsPrefix}
-use Rattle.fl_board.specs.Seats.{Place}
+use Rattle.fl_board.specs.Seats.{Place, front_of}
 use Rattle.fl_board.specs.Shown.{HasAllOf}
+use Rattle.fl_counter.specs.Answered.{answered_by}
 use Rattle.fl_counter.specs.Asked.{Orders}
 use Rattle.fl_desk.specs.Legal.{IsLegal}
 use Rattle.fl_history.specs.declared.history.Line.{Line}
@@ -21,10 +22,13 @@ use Rattle.fl_log.specs.Growing.{Grows}
 use Rattle.fl_desk.specs.Answered.{IsAnsweredAfter}
 use Rattle.fl_pool.specs.Working.{HaveDone}
 use Rattle.fl_serve.specs.Inside.Seated.{by_place}
-use Rattle.fl_serve.proofs.GrowingLemmas.{appended_more, by_begins, just_these, then_more}
+use Rattle.fl_serve.proofs.GrowingLemmas.{by_begins, just_these, then_more}
 use Rattle.fl_serve.proofs.PartLemmas.{answered_each, as_many_handed, author_of, gave_each, kept_each, parts_of, same_orders}
 use Rattle.fl_serve.proofs.PartLemmas.{same_refused, same_workers}
-use Rattle.fl_serve.specs.Inside.Closing.{HasAll, HasGrown, HasSaidGoodbye, last_words}
+use Rattle.fl_serve.specs.Inside.Closing.{HasAll}
+use Rattle.fl_staff.specs.Closing.{HasSaidGoodbye, last_words}
+use Rattle.fl_staff.specs.Served.{HasServed, IsUnused}
+use Rattle.fl_staff.specs.declared.staff.Served.{Served}
 use Rattle.fl_serve.specs.Serve.{AreAllGiven, AreDone, IsRecordedBy, IsServedBy}
 use Rattle.fl_session.specs.Recorded.{done_of, journal_lines}
 use Rattle.fl_session.specs.declared.done.Done.{Done}
@@ -44,21 +48,6 @@ use Rattle.fl_wire.specs.Spell.{IsReply}
 use Rattle.fl_workers.specs.Received.{HasReceived, IsLast, Reception, answer_by, left_to_answer, own_answers}
 use Rattle.fl_workers.specs.Sent.{entries_of, spelled}
 use Rattle.fl_workers.specs.declared.entry.ReplyEntry.{ReplyEntry}
-
--- there is a seat for each worker
-pub as_many : (seats : List Place) (workers : ℕ) → map (λ seat. seat.worker) seats ≡ range_with_len 0 workers
-    → length seats ≡ workers
-as_many seats workers each =
-    sym (length-map seats (λ seat. seat.worker)) ∙ ap length each ∙ length-range_with_len 0 workers
-
--- the workers of posts are those of their seats
-pub workers_of : {X : Type 0} (seat_of : X → Place) (posts : List X) (seats : List Place) → map seat_of posts ≡ seats
-    → map (λ (x : X). (seat_of x).worker) posts ≡ map (λ (p : Place). p.worker) seats
-workers_of seat_of posts seats is = go posts ∙ ap (map (λ (p : Place). p.worker)) is
-  where
-    go : (xs : List _) → map (λ x. (seat_of x).worker) xs ≡ map (λ (p : Place). p.worker) (map seat_of xs)
-    go [] = refl
-    go (x ∷ xs) = ap (λ l. (seat_of x).worker ∷ l) (go xs)
 
 -- no session ends without a reader, as long as its board is told
 pub never_no_reader : (told : Option Fault) (broken : Bool) (messages : List (List ℕ)) (rest : List ℕ)
@@ -169,64 +158,6 @@ all_known true false false e = (refl, refl, refl)
 all_known true false true e = absurd (true≢false (sym e))
 all_known true true more e = absurd (true≢false (sym e))
 all_known false lost more e = absurd (true≢false (sym e))
-
-words : (goodbye : Response) → (goodbye ≡ Nothing → ⊥) → last_words goodbye ≡ goodbye ∷ []
-words Nothing some = absurd (some refl)
-words (Init unique step) some = refl
-words (One told) some = refl
-words (Replies tolds) some = refl
-
--- a goodbye was given
-pub goodbye_given : (log log_now : List ReplyEntry) (own mine : Appended ReplyEntry) (goodbye : Response) (said : Bool)
-    → (goodbye ≡ Nothing → ⊥) → (said ≡ true → log_now ≡ log ++ answer_by own.author goodbye ∷ [])
-    → (said ≡ true → IsAppended own (answer_by own.author goodbye) mine)
-    → (said ≡ true → log_now ≡ log ++ map (answer_by own.author) (last_words goodbye))
-    × (said ≡ true → HasGrown own mine (map (answer_by own.author) (last_words goodbye)))
-goodbye_given log log_now own mine goodbye said some logged appended =
-    let is = sym (words goodbye some) in (
-      λ t. subst (λ w. log_now ≡ log ++ map (answer_by own.author) w) is (logged t),
-      λ t. subst (λ w. HasGrown own mine (map (answer_by own.author) w)) is (record {
-        author = (appended t).author;
-        grown = appended_more author_of own mine (answer_by own.author goodbye) refl (appended t);
-      }),
-    )
-
-all_front : {X : Type 0} (P : X → Type 0) (xs : List X) (x : X) → All P (xs ++ x ∷ []) → All P xs
-all_front P [] x all = All-nil P
-all_front P (y ∷ xs) x all = All-cons P y xs (All-head P y (xs ++ x ∷ []) all)
-    (all_front P xs x (All-tail P y (xs ++ x ∷ []) all))
-
-all_last : {X : Type 0} (P : X → Type 0) (xs : List X) (x : X) → All P (xs ++ x ∷ []) → P x
-all_last P [] x all = All-head P x [] all
-all_last P (y ∷ xs) x all = all_last P xs x (All-tail P y (xs ++ x ∷ []) all)
-
-both_true : (a b : Bool) → (a && b) ≡ true → (a ≡ true) × (b ≡ true)
-both_true true b e = (refl, e)
-both_true false b e = absurd (true≢false (sym e))
-
--- all was given, and the goodbye last
-pub goodbye_said : (start : Option (List ℕ)) (out : Outgoing) (log log_now : List ReplyEntry)
-    (appenders all : List (Appended ReplyEntry)) (own mine : Appended ReplyEntry) (goodbye : Response) (closed said : Bool)
-    → IsGiven start out (spelled log_now)
-    → (said ≡ true → log_now ≡ log ++ map (answer_by own.author) (last_words goodbye))
-    → (said ≡ true → HasGrown own mine (map (answer_by own.author) (last_words goodbye)))
-    → all ≡ appenders ++ mine ∷ [] → (closed ≡ true → All (HasAllEntries author_of log_now) all)
-    → (closed ≡ true → length log_now ≡ sum_by (λ (a : Appended ReplyEntry). a.count) all)
-    → HasSaidGoodbye start out appenders own goodbye (closed && said)
-goodbye_said start out log log_now appenders all own mine goodbye closed said given is grown these each total = record {
-  front = log;
-  log = log_now;
-  given = given;
-  is = λ whole. is (both_true closed said whole).1;
-  each = λ whole. all_front (HasAllEntries author_of log_now) appenders mine
-      (subst (λ l. All (HasAllEntries author_of log_now) l) these (each (both_true closed said whole).0));
-  mine = mine;
-  grown = λ whole. grown (both_true closed said whole).1;
-  all = λ whole. all_last (HasAllEntries author_of log_now) appenders mine
-      (subst (λ l. All (HasAllEntries author_of log_now) l) these (each (both_true closed said whole).0));
-  total = λ whole. total (both_true closed said whole).0 ∙ ap (sum_by (λ (a : Appended ReplyEntry). a.count)) these
-      ∙ sum_by_push (λ (a : Appended ReplyEntry). a.count) appenders mine;
-}
 
 -- what a board was told, as the result of its session
 pub closed_as : {K : Type 0} (lines : K → List Line) (stored : List Line) (places : List Place) (known any : Bool)
@@ -366,12 +297,31 @@ all_recorded lines stored workers takers rules by streams start it as_many same 
   untold = untold;
 }
 
--- by its own names
-pub recorded_from : {K : Type 0} (lines stored : K → List Line) (workers takers : ℕ) (rules by : Rules)
-    (left left_now start held held_now : Option (List ℕ)) (it : Recorded K) → takers ≡ workers → rules ≡ by → held ≡ start
-    → IsRecordedBy lines stored takers by (record { left = left; left_now = left_now; held = start; held_now = held_now }) it
-    → IsRecordedBy lines stored workers rules (record { left = left; left_now = left_now; held = held; held_now = held_now }) it
-recorded_from lines stored workers takers rules by left left_now start held held_now it many same begun recorded =
-    subst (λ n. IsRecordedBy lines stored n rules (record { left = left; left_now = left_now; held = held; held_now = held_now }) it) many
-    (subst (λ r. IsRecordedBy lines stored takers r (record { left = left; left_now = left_now; held = held; held_now = held_now }) it) (sym same)
-    (subst (λ h. IsRecordedBy lines stored takers by (record { left = left; left_now = left_now; held = h; held_now = held_now }) it) (sym begun) recorded))
+-- nothing was handed in, shown or stored at these places of a new board
+pub unused_each : (places : List Place)
+    → All (λ (p : Place). (p.count ≡ 0) × (p.handed ≡ []) × (p.seen ≡ []) × (p.stored ≡ [])) places
+    → All (IsUnused by_place) places
+unused_each [] fresh = All-nil (IsUnused by_place)
+unused_each (p ∷ places) fresh =
+    let P : Place → Type 0 = λ p. (p.count ≡ 0) × (p.handed ≡ []) × (p.seen ≡ []) × (p.stored ≡ []) in
+    let this = All-head P p places fresh in
+    All-cons (IsUnused by_place) p places
+    (
+      this.0,
+      ap (answered_by p.worker) this.1,
+      (λ i. front_of (record p { handed = this.1 i; seen = this.2 i })),
+      this.3,
+    )
+    (unused_each places (All-tail P p places fresh))
+
+-- what a session did that was served at a board
+pub board_served : {C : Type 0} (rules : Rules) (workers : ℕ) (streams : Streams) (it : Served C Place)
+    (stored : List Line) (done : Done) → HasServed by_place (IsAnsweredAfter rules) workers streams it
+    → HasAll it.seats.items it.refused it.fault stored done × (it.known ≡ true)
+    ⊎ (done.fault ≡ Some NoReader) × (done.history ≡ []) × (done.refused ≡ false)
+    → IsServedBy workers rules streams stored done
+board_served rules workers streams it stored done did closed =
+    served_by rules workers _ streams.held streams.held_now did.broken did.sents it.seats.items
+    (λ weight. sum_by weight did.orders) it.refused did.lost did.whole it.fault stored done did.received refl did.did did.said
+    (λ weight. refl) did.whose did.ends
+    (⊎_elim (λ all. inl (all.0, sym did.known ∙ all.1)) inr closed)

@@ -11,14 +11,12 @@
 //! `worker_loop`.
 #![tactic(auto)]
 
-mod crew;
-mod finishing;
 mod serving;
-mod stock;
 
 pub use fl_intake::{Closed, Intake, Job, MOST_JOBS, NotAll, PutEnd, TakeEnd};
 pub use fl_session::{
     Broken, Done, Ended, Fault, Outbox, Recorded, record_session, run_one, run_session,
 };
+pub use fl_staff::Staff;
 pub use fl_workers::{Counter, Gate, OpenGate, SharedSender, WriterName, worker_loop};
-pub use serving::{Staff, record_with_workers, serve};
+pub use serving::{record_with_workers, serve};

@@ -1,38 +1,27 @@
 //! A whole session of the FUSE protocol with workers, over any reader and any writer.
 
-ghost use Rattle.std.specs.Prelude.{◌≡◌, ◌≤◌, ◌<◌, ◌+◌, ◌⊎◌, [], All, Some, false, map};
+ghost use Rattle.std.specs.Prelude.{◌≡◌, ◌≢◌, ◌≤◌, ◌<◌, ◌+◌, ◌⊎◌, [], IfSome, IsSome, None, Some, false, true};
 ghost use Rattle.std.specs.Io.KnownBytes.{Keeps};
-ghost use Rattle.std.specs.List.{range_with_len};
 ghost use Rattle.fl_desk.specs.Legal.{IsLegal, LeavesLawful};
-ghost use Rattle.fl_log.specs.Appended.{unused};
-ghost use Rattle.fl_pool.specs.Running.{CanRun};
-ghost use Rattle.fl_pool.specs.Working.{IsFresh, IsIdle};
-ghost use Rattle.fl_serve.specs.Inside.Seated.{by_place};
+ghost use Rattle.fl_serve.specs.Inside.Closing.{HasAll};
 ghost use Rattle.fl_serve.specs.Serve.{IsRecordedBy, IsServedBy};
-ghost use Rattle.fl_workers.specs.Room.{HasBatchFor, HasRoomFor};
+ghost use Rattle.fl_session.specs.Recorded.{done_of, journal_lines};
 
-use crate::crew::manned;
-use crate::finishing::{finish, unstarted};
-use crate::stock::{Stock, opened};
 use fl_board::{Board, BoardName, OpenFault};
 use fl_core::Rules;
 use fl_desk::laws::a_legal_history_goes_on_by_orders;
 use fl_history::{Journal, Lines};
-use fl_intake::PutEnd;
-use fl_log::{Appender, Ask, FreshLog};
-use fl_pool::{Crew, WorkerPool};
+use fl_log::{Ask, FreshLog};
 use fl_session::{Done, Recorded};
-use fl_transport::{Fault, Inbox};
-use fl_workers::{Counter, Gate, ReplyEntry, ReplyRoom, SharedSender, WriterName};
+use fl_staff::{Served, Staff, serve_at};
+use fl_transport::Fault;
+use fl_workers::{Gate, ReplyEntry, WriterName};
 use std::alloc::Global;
 use std::io::{Read, Write};
 use std::marker::Brand;
+use std::sync::Wait;
 use std::sync::ledger::Blank;
-use std::sync::{Mutex, Wait};
 use std::thread::Threads;
-
-// Bytes of a worker's stack.
-const STACK_BYTES: usize = 2 << 20;
 
 /// Serves a whole session with 1 to 16 workers, under these rules. The reader, which is the caller's thread, answers
 /// what is no order; each order goes to a worker, which looks for it at one board or hands it in there, and sends all
@@ -65,51 +54,8 @@ pub fn serve<R: Threads + Wait + Sync, I: Read, W: Write + Send + Drop, G: Gate 
     ensures untold { result.fault ≡ Some Fault.NoReader → result.history ≡ [] }
 {
     a_legal_history_goes_on_by_orders();
-    let staff = Staff {
-        workers,
-        rules,
-        stack: STACK_BYTES,
-        inline: false,
-    };
+    let staff = Staff::new(workers, rules);
     record_with_workers(rt, alloc, r, w, staff, gate, Lines::new(alloc)).into_done(alloc)
-}
-
-/// How a session with workers is served: by how many of them, under which rules, with how many bytes for each worker's
-/// stack, and where the first works. If a thread can't be made with such a stack, the fault is `NoMemory`.
-#[derive(Clone, Copy, Debug)]
-pub struct Staff {
-    /// How many workers, 1 to 16.
-    pub workers: u32,
-    /// By which rules requests wait.
-    pub rules: Rules,
-    /// Bytes of a worker's stack.
-    pub stack: usize,
-    /// The first worker works in the thread that reads, and takes each order that comes while no other worker has one.
-    /// Nothing is read while it waits: so this is for a gate that never waits, and for a journal whose lines may leave
-    /// after replies.
-    pub inline: bool,
-}
-
-impl Staff {
-    /// So many workers, under these rules, each in a thread of its own, with stacks of 2 MiB.
-    pub fn new(workers: u32, rules: Rules) -> Staff
-        ensures { (result.workers ≡ workers) × (result.rules ≡ rules) × (result.stack ≡ 2097152)
-            × (result.inline ≡ false) }
-    {
-        Staff {
-            workers,
-            rules,
-            stack: STACK_BYTES,
-            inline: false,
-        }
-    }
-
-    /// The same staff. `inline` says whether the first worker works in the thread that reads.
-    pub fn with_inline(self, inline: bool) -> Staff
-        ensures { result ≡ record self { inline = inline } }
-    {
-        Staff { inline, ..self }
-    }
 }
 
 /// As `serve`, with this staff, but its lines go to this journal, which has none so far. The journal comes back with
@@ -187,94 +133,52 @@ fn run_at<
       held_now = W.contents result.1.now;
     }) result.0 }
 {
-    let (board, seats, stock) = match opened::<L, N, P, J>(
-        alloc,
-        handle,
-        journal,
-        blank,
-        log,
-        staff.workers,
-        staff.rules,
-    ) {
+    let Staff { workers, rules, .. } = staff;
+    let made = Board::<L, P, J>::over(alloc, handle, journal, blank, log, workers, rules);
+    let (board, seats) = match made {
         Ok(made) => made,
         Err(fault) => return (Recorded::nothing(alloc, unopened(fault)), w),
     };
-    let Stock {
-        left,
-        inbox,
-        replies,
-        intake,
-        put,
-        ends,
-        rooms,
-        crew,
-    } = stock;
-    let (sender, mut rest) = SharedSender::<'w, W, N>::new(sending, given, replies, w);
-    let crew = manned(crew, &intake, seats, ends, rooms, &sender, &mut rest);
-    let own = sender.appender(&mut rest, staff.workers);
-    let pool = WorkerPool {
-        rt,
-        gate,
-        stack: staff.stack,
-        inline: staff.inline,
-        counter: board,
-        intake,
-        sender: Mutex::new(sender),
-    };
-    run_pool(alloc, pool, r, inbox, put, crew, own, left)
-}
-
-// Runs the workers of a session, and ends it once they came back.
-fn run_pool<
-    'w,
-    L: BoardName + Send + Sync,
-    N: WriterName + Send + Sync,
-    P: Wait + Drop + Copy + Send + Sync,
-    R: Threads + Wait + Sync,
-    I: Read,
-    W: Write + Send + Drop,
-    G: Gate + Sync,
-    J: Journal + Send + Drop,
->(
-    alloc: Global,
-    pool: WorkerPool<'_, 'w, Board<L, P, J>, N, R, W, G>,
-    r: &mut I,
-    inbox: Inbox,
-    put: PutEnd,
-    crew: Crew<Board<L, P, J>, N>,
-    own: Appender<N, ReplyEntry>,
-    left: ReplyRoom,
-) -> (Recorded<J>, &'w mut W)
-    requires parts { (L.workers ≡ L.parts) × (put.takers + 1 ≡ N.parts) × (0 < put.takers) }
-    requires workers { map (λ worker. worker.post.seat.worker) crew.workers.items ≡ range_with_len 0 put.takers }
-    requires can { CanRun pool.intake inbox put }
-    requires idle { All (λ worker. IsIdle by_place worker.post.seat worker.post.own) crew.workers.items }
-    requires ends { All (λ worker. IsFresh pool.intake worker.end) crew.workers.items }
-    requires rooms { All (λ worker. HasBatchFor (L.rules.parked + 1) worker.room) crew.workers.items }
-    requires left { HasRoomFor (L.rules.parked + 1) left }
-    requires own { own ≡ unused put.takers }
-    ensures writer { result.1.ghost_name ≡ N.writer }
-    ensures recorded { IsRecordedBy J.lines J.stored put.takers L.rules (record {
-      left = I.remaining r.old;
-      left_now = I.remaining r.new;
-      held = N.start;
-      held_now = W.contents result.1.now;
-    }) result.0 }
-{
-    match pool.run(r, inbox, put, crew, own) {
-        Some(ran) => finish(alloc, pool, ran, left),
-        None => unstarted(alloc, only_sender(pool, left)),
+    let (served, w) = serve_at(
+        rt, alloc, board, seats, staff, sending, given, r, w, gate,
+    );
+    match served {
+        Ok(served) => (closed(alloc, served), w),
+        Err(fault) => (Recorded::nothing(alloc, fault), w),
     }
 }
 
-// The sender of a session of which a worker couldn't be started. All else is dropped: here, and not where the session
-// is run, so that few steps have many values.
-fn only_sender<'w, C: Counter + Drop, N: WriterName, R: Wait, W: Write, G>(
-    pool: WorkerPool<'_, 'w, C, N, R, W, G>,
-    _left: ReplyRoom,
-) -> SharedSender<'w, W, N> {
-    let WorkerPool { sender, .. } = pool;
-    sender.into_inner()
+// The result of a session that was served. If the board can't give the history, or it isn't known that each reply was
+// given to be sent, the fault is `NoReader`.
+fn closed<L: BoardName, P: Wait + Drop + Copy, J: Journal + Drop>(
+    alloc: Global,
+    served: Served<Board<L, P, J>>,
+) -> Recorded<J>
+    requires { L.workers ≡ L.parts }
+    ensures legal { IfSome result.journal (λ journal. IsLegal L.rules (J.lines journal)) }
+    ensures told { HasAll served.seats.items served.refused served.fault (journal_lines J.stored result.journal)
+        (done_of J.lines result) × (served.known ≡ true)
+        ⊎ (result.fault ≡ Some Fault.NoReader) × (result.journal ≡ None) × (result.refused ≡ false) }
+    ensures back { IsSome result.journal ⊎ (result.fault ≡ Some Fault.NoReader) }
+    ensures untold { served.fault ≢ Some Fault.NoReader → result.fault ≡ Some Fault.NoReader
+        → result.journal ≡ None }
+    ensures memory { served.fault ≢ Some Fault.NoMemory → result.fault ≢ Some Fault.NoMemory }
+{
+    let Served {
+        counter: board,
+        seats,
+        refused,
+        known,
+        fault,
+    } = served;
+    match board.into_journal(seats) {
+        Ok(journal) if known => Recorded {
+            journal: Some(journal),
+            fault,
+            refused,
+        },
+        _ => Recorded::nothing(alloc, Fault::NoReader),
+    }
 }
 
 // Why a session has no board.

@@ -1,37 +1,9 @@
--- The seats of a board, and what a session has for its workers before its first read.
-use Rattle.std.specs.Prelude.{◌≡◌, ℕ, ◌<◌, ◌≤◌, ◌+◌, [], All, length, vec_capacity}
+-- What a board says of its seats.
 use Rattle.fl_board.specs.Seats.{Place, front_of}
 use Rattle.fl_counter.specs.Answered.{answered_by}
-use Rattle.fl_pool.specs.Running.{CanRun}
-use Rattle.fl_pool.specs.Working.{IsFresh, Reading, reading}
-use Rattle.fl_pool.specs.declared.crew.Crew.{Crew}
-use Rattle.fl_serve.specs.declared.stock.Stock.{Stock}
-use Rattle.fl_waiting.specs.declared.rules.Rules.{Rules}
-use Rattle.fl_workers.specs.Room.{HasBatchFor, HasRoomFor}
+use Rattle.fl_pool.specs.Working.{Reading, reading}
 
 -- what a board says of a place at it
 abbrev pub by_place : Reading Place
 by_place = reading (λ place. place.worker) (λ place. place.count) (λ place. answered_by place.worker place.handed) front_of
     (λ place. place.stored)
-
--- nothing was handed in, shown or stored at this place
-abbrev pub IsUnused : Place → Type 0
-IsUnused place = (place.count ≡ 0) × (place.handed ≡ []) × (place.seen ≡ []) × (place.stored ≡ [])
-
--- there is room for so many workers, for their threads, and for what they give back and one appender more
-abbrev pub HasRoomForAll : {C N S : Type 0} → ℕ → Crew C N S → Type 0
-HasRoomForAll workers crew = (workers ≤ vec_capacity crew.workers) × (workers ≤ vec_capacity crew.threads)
-    × (workers ≤ vec_capacity crew.back.seats) × (workers < vec_capacity crew.back.appenders)
-    × (workers ≤ vec_capacity crew.back.ends)
-
--- So many workers can run with this stock, once they have seats: nothing was read or put, each has an end of the intake
--- and a room for batches, no reply is collected, and there is room for all.
-pub record IsStocked {C N S : Type 0} (rules : Rules) (workers : ℕ) (stock : Stock C N S) : Type 0 where
-  pub can : CanRun stock.intake stock.inbox stock.put
-  pub takers : stock.put.takers ≡ workers
-  pub fresh : All (IsFresh stock.intake) stock.ends.items
-  pub batches : All (HasBatchFor (rules.parked + 1)) stock.rooms.items
-  pub enough : (length stock.ends.items ≡ workers) × (length stock.rooms.items ≡ workers)
-  pub left : HasRoomFor (rules.parked + 1) stock.left
-  pub none : (stock.replies ≡ []) × (stock.crew.workers.items ≡ [])
-  pub room : HasRoomForAll workers stock.crew

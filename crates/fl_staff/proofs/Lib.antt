@@ -1,0 +1,3 @@
+pub mod CrewLemmas
+pub mod EndLemmas
+pub mod RestLemmas
