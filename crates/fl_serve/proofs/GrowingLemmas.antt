@@ -1,11 +1,9 @@
 -- What came behind what there was, and is all that there is if it is counted.
-use Rattle.std.proofs.Common.{◌≡◌, ℕ, ◌+◌, ◌≤◌, ◌==◌, true, List, [], ◌∷◌, ◌++◌, length, refl, ap, sym, ◌∙◌, subst, arith}
+use Rattle.std.proofs.Common.{◌≡◌, ℕ, ◌≤◌, List, [], ◌∷◌, ◌++◌, length, refl, ap, sym, ◌∙◌, subst, arith}
 use Rattle.std.proofs.Common.{append_assoc, append-nil, length-append}
 use mathlib.Core.List.{IsPrefix, Sublistᴰ}
 use mathlib.Core.List.Sublistᴰ as sublist
-use Rattle.std.proofs.lemmas.Bool.Decides.{nat_tests}
-use Rattle.std.specs.Prelude.{if◌then◌else◌}
-use Rattle.fl_log.specs.Appended.{Appended, IsAppended, entries_by, entry_by}
+use Rattle.fl_log.specs.Appended.{entries_by, entry_by}
 use Rattle.fl_log.specs.Growing.{Grows}
 
 module _ {A : Type 0} where

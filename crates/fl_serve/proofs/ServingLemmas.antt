@@ -3,21 +3,18 @@ use Rattle.std.proofs.Common.{◌≡◌, ◌≢◌, ℕ, ◌⊎◌, inl, inr, �
 use Rattle.std.proofs.Common.{All, Option, Some, None, length, map, sum_by, refl, sym, ap, subst, ◌∙◌, arith}
 use Rattle.std.proofs.KnownBytes.{Appends-nil, Keeps-refl}
 use Rattle.std.proofs.lemmas.List.{length-map, map-append}
-use Rattle.std.proofs.lemmas.List.Elements.{All-cons, All-head, All-nil, All-tail}
-use Rattle.std.proofs.lemmas.List.Sums.{sum_by_push}
-use Rattle.std.proofs.lemmas.List.FromFn.{length-range_with_len}
+use Rattle.std.proofs.lemmas.List.Elements.{All-nil}
 use Rattle.std.specs.List.{range_with_len}
 use Rattle.std.specs.Prelude.{IfSome, IsSome, not, ◌&&◌, ◌||◌}
 use Rattle.std.specs.Io.KnownBytes.{Keeps}
 use mathlib.Core.List.{IsPrefix}
-use Rattle.fl_board.specs.Seats.{Place, front_of}
+use Rattle.fl_board.specs.Seats.{Place}
 use Rattle.fl_board.specs.Shown.{HasAllOf}
-use Rattle.fl_counter.specs.Answered.{answered_by}
 use Rattle.fl_counter.specs.Asked.{Orders}
 use Rattle.fl_desk.specs.Legal.{IsLegal}
 use Rattle.fl_history.specs.declared.history.Line.{Line}
 use Rattle.fl_intake.specs.Often.{Weight}
-use Rattle.fl_log.specs.Appended.{Appended, HasAll as HasAllEntries, IsAppended}
+use Rattle.fl_log.specs.Appended.{Appended, HasAll as HasAllEntries}
 use Rattle.fl_log.specs.Growing.{Grows}
 use Rattle.fl_desk.specs.Answered.{IsAnsweredAfter}
 use Rattle.fl_pool.specs.Working.{HaveDone}
@@ -27,7 +24,7 @@ use Rattle.fl_serve.proofs.PartLemmas.{answered_each, as_many_handed, author_of,
 use Rattle.fl_serve.proofs.PartLemmas.{same_refused, same_workers}
 use Rattle.fl_serve.specs.Inside.Closing.{HasAll}
 use Rattle.fl_staff.specs.Closing.{HasSaidGoodbye, last_words}
-use Rattle.fl_staff.specs.Served.{HasServed, IsUnused}
+use Rattle.fl_staff.specs.Served.{HasServed}
 use Rattle.fl_staff.specs.declared.staff.Served.{Served}
 use Rattle.fl_serve.specs.Serve.{AreAllGiven, AreDone, IsRecordedBy, IsServedBy}
 use Rattle.fl_session.specs.Recorded.{done_of, journal_lines}
@@ -42,7 +39,7 @@ use Rattle.fl_transport.specs.Streams.{Streams}
 use Rattle.fl_transport.specs.declared.fault.Fault.{Fault}
 use Rattle.fl_transport.specs.declared.fault.Fault.TheVariants.{NoMemory, NoReader}
 use Rattle.fl_transport.specs.declared.response.Response.{Response}
-use Rattle.fl_transport.specs.declared.response.Response.TheVariants.{Nothing, Init, One, Replies}
+use Rattle.fl_transport.specs.declared.response.Response.TheVariants.{Nothing}
 use Rattle.fl_waiting.specs.declared.rules.Rules.{Rules}
 use Rattle.fl_wire.specs.Spell.{IsReply}
 use Rattle.fl_workers.specs.Received.{HasReceived, IsLast, Reception, answer_by, left_to_answer, own_answers}
@@ -54,6 +51,9 @@ pub never_no_reader : (told : Option Fault) (broken : Bool) (messages : List (Li
     (left : Option (List ℕ)) → EndsBy told broken messages rest left → told ≢ Some NoReader
 never_no_reader told broken messages rest left ends none =
     subst (λ fault. EndsBy fault broken messages rest left) none ends
+
+pub same_fault : (a b : Fault) → Some a ≡ Some b → a ≡ b
+same_fault a b same = subst (λ fault. IfSome fault (λ it. a ≡ it)) same refl
 
 -- nothing was given to be sent
 pub nothing_given : (start : Option (List ℕ))
@@ -296,23 +296,6 @@ all_recorded lines stored workers takers rules by streams start it as_many same 
   unwritten = λ memory. absurd (some memory);
   untold = untold;
 }
-
--- nothing was handed in, shown or stored at these places of a new board
-pub unused_each : (places : List Place)
-    → All (λ (p : Place). (p.count ≡ 0) × (p.handed ≡ []) × (p.seen ≡ []) × (p.stored ≡ [])) places
-    → All (IsUnused by_place) places
-unused_each [] fresh = All-nil (IsUnused by_place)
-unused_each (p ∷ places) fresh =
-    let P : Place → Type 0 = λ p. (p.count ≡ 0) × (p.handed ≡ []) × (p.seen ≡ []) × (p.stored ≡ []) in
-    let this = All-head P p places fresh in
-    All-cons (IsUnused by_place) p places
-    (
-      this.0,
-      ap (answered_by p.worker) this.1,
-      (λ i. front_of (record p { handed = this.1 i; seen = this.2 i })),
-      this.3,
-    )
-    (unused_each places (All-tail P p places fresh))
 
 -- what a session did that was served at a board
 pub board_served : {C : Type 0} (rules : Rules) (workers : ℕ) (streams : Streams) (it : Served C Place)

@@ -139,7 +139,7 @@ fn run_at<
         Ok(made) => made,
         Err(fault) => return (Recorded::nothing(alloc, unopened(fault)), w),
     };
-    let (served, w) = serve_at(
+    let (served, w) = serve_at::<Board<L, P, J>, N, R, I, W, G>(
         rt, alloc, board, seats, staff, sending, given, r, w, gate,
     );
     match served {

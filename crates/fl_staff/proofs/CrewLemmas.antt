@@ -6,7 +6,7 @@ use Rattle.std.proofs.lemmas.List.FromFn.{length-range_with_len}
 use Rattle.std.specs.List.{range_with_len}
 use mathlib.Core.List.{head-eq_of_cons-eq, tail-eq_of_cons-eq}
 use Rattle.fl_log.specs.Appended.{unused}
-use Rattle.fl_pool.specs.Working.{IsIdle, Reading, standing_at}
+use Rattle.fl_pool.specs.Working.{IsIdle, Reading}
 use Rattle.fl_staff.specs.Served.{IsUnused}
 use Rattle.fl_log.specs.Appended.{Appended}
 use Rattle.fl_workers.specs.declared.entry.ReplyEntry.{ReplyEntry}
@@ -16,6 +16,15 @@ pub as_many : {S : Type 0} (worker_of : S → ℕ) (seats : List S) (workers : �
     → length seats ≡ workers
 as_many worker_of seats workers each =
     sym (length-map seats worker_of) ∙ ap length each ∙ length-range_with_len 0 workers
+
+-- the workers of posts are those of their seats
+pub workers_of : {X S : Type 0} (worker_of : S → ℕ) (seat_of : X → S) (posts : List X) (seats : List S)
+    → map seat_of posts ≡ seats → map (λ (x : X). worker_of (seat_of x)) posts ≡ map worker_of seats
+workers_of worker_of seat_of posts seats is = go posts ∙ ap (map worker_of) is
+  where
+    go : (xs : List _) → map (λ x. worker_of (seat_of x)) xs ≡ map worker_of (map seat_of xs)
+    go [] = refl
+    go (x ∷ xs) = ap (λ l. worker_of (seat_of x) ∷ l) (go xs)
 
 -- nothing was done at a fresh seat, with a fresh appender in its worker's name
 pub idle_at : {S : Type 0} (r : Reading S) (seat : S) (sent : Appended ReplyEntry) → IsUnused r seat

@@ -1,7 +1,9 @@
 -- How a session ended.
-use Rattle.std.proofs.Common.{◌≡◌, ℕ, ◌+◌, ◌==◌, Bool, true, true≢false, List, [], ◌∷◌, ◌++◌, All, length, map, sum_by}
+use Rattle.std.proofs.Common.{◌≡◌, ℕ, ◌+◌, ◌==◌, Bool, true, false, true≢false, List, [], ◌∷◌, ◌++◌, All, length, map, sum_by}
 use Rattle.std.proofs.Common.{Option, refl, ap, sym, ◌∙◌, subst, arith, append_assoc, append-nil}
+use Rattle.std.proofs.KnownBytes.{Appends-nil}
 use Rattle.std.proofs.lemmas.Bool.Decides.{nat_tests}
+use Rattle.std.proofs.lemmas.List.Elements.{All-nil}
 use Rattle.std.proofs.lemmas.List.Sums.{sum_by_push}
 use Rattle.std.specs.Prelude.{if◌then◌else◌, ◌&&◌}
 use mathlib.Core.List.{IsPrefix, Sublistᴰ}
@@ -16,9 +18,13 @@ use Rattle.fl_pool.specs.Working.{HaveDone, Reading}
 use Rattle.fl_pool.specs.declared.pool.Ran.{Ran}
 use Rattle.fl_staff.proofs.RestLemmas.{All_front, All_last}
 use Rattle.fl_staff.specs.Closing.{HasGrown, HasSaidGoodbye, last_words}
+use Rattle.fl_staff.specs.Served.{HasServed}
+use Rattle.fl_staff.specs.declared.staff.Served.{Served}
 use Rattle.fl_transport.specs.Collecting.{IsGiven, Outgoing}
+use Rattle.fl_transport.specs.Streams.{Streams}
 use Rattle.fl_transport.specs.declared.response.Response.{Response}
 use Rattle.fl_transport.specs.declared.response.Response.TheVariants.{Nothing, Init, One, Replies}
+use Rattle.fl_wire.specs.Spell.{IsReply}
 use Rattle.fl_workers.specs.Received.{answer_by}
 use Rattle.fl_workers.specs.Sent.{spelled}
 use Rattle.fl_workers.specs.Worked.{Shows}
@@ -68,6 +74,11 @@ appended_more author_of old new e its appended =
     (by_begins author_of old.author old.upto appended.before appended.had)
     (ap by appended.upto ∙ by_append author_of old.author appended.before (e ∷ [])
     ∙ ap (λ l. by appended.before ++ l) (by_itself author_of old.author e its)) appended.count
+
+-- nothing was given to be sent
+pub nothing_given : (start : Option (List ℕ))
+    → IsGiven start (record { held = start; waiting = []; broken = false }) (spelled [])
+nothing_given start = record { sent = []; written = Appends-nil start; are_given = refl; framed = All-nil IsReply }
 
 words : (goodbye : Response) → (goodbye ≡ Nothing → ⊥) → last_words goodbye ≡ goodbye ∷ []
 words Nothing some = absurd (some refl)
@@ -140,3 +151,8 @@ weighed r shows orders others seats sents any lost same did = record {
   refused = did.refused;
   missing = did.missing;
 }
+
+-- the same of as many workers, by another term
+pub served_by_as_many : {C S : Type 0} (r : Reading S) (shows : Shows) (n m : ℕ) (streams : Streams) (it : Served C S) → n ≡ m
+    → HasServed r shows n streams it → HasServed r shows m streams it
+served_by_as_many r shows n m streams it same did = subst (λ k. HasServed r shows k streams it) same did

@@ -1,5 +1,5 @@
 -- The result of a session once its board is closed.
-use Rattle.std.specs.Prelude.{◌≡◌, ℕ, Bool, List, All, Option, sum_by}
+use Rattle.std.specs.Prelude.{◌≡◌, Bool, List, All, Option, sum_by}
 use mathlib.Core.List.{IsPrefix}
 use Rattle.fl_board.specs.Seats.{Place}
 use Rattle.fl_board.specs.Shown.{HasAllOf}

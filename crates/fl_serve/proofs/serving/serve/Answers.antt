@@ -5,7 +5,8 @@ use Rattle.fl_serve.proofs.serving.serve.Goals as goal
 
 pub returns : goal.returns
 returns g c =
-    let recorded = c.record_with_workers.ensures in
+    let made = c.new-staff.ensures in
+    let recorded = rw made.1 at (rw made.0 at c.record_with_workers.ensures) in
     let is = c.into_done.ensures.is in
     let told = sym (ap (λ (d : Done). d.fault) is) in
     let legal = c.into_done.ensures.legal _ recorded.legal in

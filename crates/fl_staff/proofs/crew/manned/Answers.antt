@@ -1,4 +1,4 @@
-use Rattle.std.proofs.Common.{rules, ◌≡◌, ◌+◌, ◌∷◌, [], Some, arith, length, length-append, ap, ◌∙◌, subst, refl, sym}
+use Rattle.std.proofs.Common.{rules, ◌≡◌, ◌∷◌, [], Some, arith, length, length-append, ap, ◌∙◌, subst, refl, sym}
 use Rattle.std.proofs.lemmas.List.Elements.{All-pop}
 use Rattle.fl_log.specs.Appended.{unused}
 use Rattle.fl_pool.specs.Working.{IsFresh, IsIdle, reading}

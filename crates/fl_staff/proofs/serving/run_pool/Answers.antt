@@ -1,11 +1,10 @@
-use Rattle.std.proofs.Common.{◌∙◌, ℕ, [], arith, ap, length, sym, subst}
+use Rattle.std.proofs.Common.{◌∙◌, ℕ, arith, ap, length, sym}
 use Rattle.std.proofs.lemmas.List.{length-map}
 use Rattle.std.proofs.lemmas.List.FromFn.{length-range_with_len}
 use Rattle.std.specs.List.{range_with_len}
 use Rattle.fl_log.specs.Appended.{Appended, unused}
 use Rattle.fl_pool.specs.Working.{reading}
-use Rattle.fl_staff.proofs.EndLemmas.{run_as}
-use Rattle.fl_staff.specs.Served.{HasServed}
+use Rattle.fl_staff.proofs.EndLemmas.{run_as, served_by_as_many}
 use Rattle.fl_workers.specs.declared.entry.ReplyEntry.{ReplyEntry}
 use Rattle.fl_staff.proofs.serving.run_pool.Goals as goal
 
@@ -35,7 +34,7 @@ returns-in-Some-clause-served g c =
     let whole = run_as _ _ _ _ _ _ _ _ _ _ _ run (c.requires.workers ∙ ap (range_with_len 0) takers)
     (c.requires.own ∙ ap by takers) in
     let read = reading g.C.Counter.worker g.C.Counter.count g.C.Counter.answered g.C.Counter.front g.C.Counter.stored in
-    subst (λ n. HasServed read g.C.Counter.shows n _ _) run.same.1 (c.finish-served.ensures.served _ _ _ whole)
+    served_by_as_many read g.C.Counter.shows _ _ _ _ run.same.1 (c.finish-served.ensures.served _ _ _ whole)
 
 pub returns-in-None-clause-unserved : goal.returns-in-None-clause-unserved
 returns-in-None-clause-unserved g c =
