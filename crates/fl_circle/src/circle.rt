@@ -9,23 +9,22 @@ ghost use Rattle.fl_waiting.specs.Wanted.{meant};
 ghost use Rattle.fl_circle.specs.Inside.Searching.{blocks_among, precedes, precedes_by, is_set, owners_of, IsByOwner};
 ghost use Rattle.fl_circle.specs.Inside.Searching.{IsReachedByOwner};
 
-use fl_marks::{Class, Key, Kind, Range};
-use fl_ranges::Table;
+use fl_marks::{Class, Conflicts, Key, Kind, Range};
 use fl_waiting::{MOST_PARKED, Parked, Rules, Wanted, older_blocks};
 
 // If no more wait, a search makes room for so many, and else for the most that rules may allow: room costs time.
 const FEW_PARKED: usize = 256;
 
 /// Whether a request for this lock would close a circle if it waited. Requests for whole-file locks never do.
-pub fn close_circle(
+pub fn close_circle<T: Conflicts>(
     parked: &Parked,
     rules: Rules,
-    locks: &Table,
+    locks: &T,
     key: &Key,
     range: &Range,
     kind: Kind,
 ) -> bool
-    ensures { result ≡ closes_circle rules locks.now.marking parked.now
+    ensures { result ≡ closes_circle rules (T.marking locks.now) parked.now
         (record { key = key.now; start = range.now.start; end = range.now.end; kind = kind }) }
 {
     if let Class::Flock = key.class {
@@ -41,19 +40,24 @@ pub fn close_circle(
         place: 0,
     };
     if parked.count() <= FEW_PARKED {
-        closes_among::<FEW_PARKED>(rules, locks, parked, asked)
+        closes_among::<T, FEW_PARKED>(rules, locks, parked, asked)
     } else {
-        closes_among::<MOST_PARKED>(rules, locks, parked, asked)
+        closes_among::<T, MOST_PARKED>(rules, locks, parked, asked)
     }
 }
 
 // Whether this lock would close a circle among these requests. It makes room for N of them, and takes no memory. That
 // room, of up to 75 kB on the stack, is for the orders that need it alone.
 #[inline(never)]
-fn closes_among<const N: usize>(rules: Rules, locks: &Table, parked: &Parked, asked: Wanted) -> bool
+fn closes_among<T: Conflicts, const N: usize>(
+    rules: Rules,
+    locks: &T,
+    parked: &Parked,
+    asked: Wanted,
+) -> bool
     requires few { length parked.now ≤ N }
     requires fits { N ≤ MOST_PARKED }
-    ensures { result ≡ closes_circle rules locks.now.marking parked.now (meant asked) }
+    ensures { result ≡ closes_circle rules (T.marking locks.now) parked.now (meant asked) }
 {
     let mut asked = asked;
     let mut room = [asked; N];
@@ -61,7 +65,7 @@ fn closes_among<const N: usize>(rules: Rules, locks: &Table, parked: &Parked, as
     asked.place = count as u32;
     let wanted = &mut room[..count];
     wanted.sort_unstable_by_key(|wanted| wanted.key.owner);
-    leads_back::<N>(rules, locks, wanted, &asked)
+    leads_back::<T, N>(rules, locks, wanted, &asked)
 }
 
 // Whether an older one, of those that are copied, blocks this one.
@@ -72,17 +76,17 @@ fn precedes(wanted: &Wanted, older: &Wanted) -> bool
 }
 
 // Whether a request waits for its own owner, through others, which stand in the order of their owners.
-fn leads_back<const N: usize>(
+fn leads_back<T: Conflicts, const N: usize>(
     rules: Rules,
-    locks: &Table,
+    locks: &T,
     wanted: &[Wanted],
     asked: &Wanted,
 ) -> bool
     requires few { length wanted.now ≤ N }
     requires fits { N ≤ MOST_PARKED }
     requires sorted { IsByOwner wanted.now }
-    ensures { result ≡ leads (λ (w : Wanted). w.key.owner) (blocks_among rules locks.now.marking wanted.now) wanted.now
-        asked.now asked.now.key.owner }
+    ensures { result ≡ leads (λ (w : Wanted). w.key.owner) (blocks_among rules (T.marking locks.now) wanted.now)
+        wanted.now asked.now asked.now.key.owner }
 {
     let room = owners_of::<N>(wanted);
     let owners = &room[..wanted.len()];
@@ -130,10 +134,10 @@ fn next<const N: usize>(reached: &[bool], visited: &[bool; N]) -> Option<usize>
     None
 }
 
-// Marks every owner that blocks the request. The table is asked once.
-fn reach(
+// Marks every owner that blocks the request. The locks are asked once.
+fn reach<T: Conflicts>(
     rules: Rules,
-    locks: &Table,
+    locks: &T,
     request: &Wanted,
     wanted: &[Wanted],
     owners: &[u64],
@@ -143,7 +147,7 @@ fn reach(
     requires long { length reached.old ≡ length owners.now }
     requires sorted { IsNonDecreasing owners.now }
     requires by_owner { IsReachedByOwner wanted.now reached.old }
-    ensures { AreFound (blocks_among rules locks.now.marking wanted.now request.now) owners.now reached.old
+    ensures { AreFound (blocks_among rules (T.marking locks.now) wanted.now request.now) owners.now reached.old
         reached.new }
 {
     if let Class::Flock = request.key.class {
@@ -200,8 +204,14 @@ fn reach_owner(owner: u64, owners: &[u64], reached: &mut [bool])
 }
 
 // Whether this owner blocks the request.
-fn waits_for(rules: Rules, locks: &Table, request: &Wanted, wanted: &[Wanted], owner: u64) -> bool
-    ensures { result ≡ blocks_among rules locks.now.marking wanted.now request.now owner }
+fn waits_for<T: Conflicts>(
+    rules: Rules,
+    locks: &T,
+    request: &Wanted,
+    wanted: &[Wanted],
+    owner: u64,
+) -> bool
+    ensures { result ≡ blocks_among rules (T.marking locks.now) wanted.now request.now owner }
 {
     if let Class::Flock = request.key.class {
         return false;
@@ -210,9 +220,9 @@ fn waits_for(rules: Rules, locks: &Table, request: &Wanted, wanted: &[Wanted], o
 }
 
 // Whether a lock of this owner conflicts with the one that is wanted.
-fn is_held_by(locks: &Table, request: &Wanted, owner: u64) -> bool
-    ensures { result ≡ owner_conflicts locks.now.marking request.now.key request.now.range.start request.now.range.end
-        request.now.kind owner }
+fn is_held_by<T: Conflicts>(locks: &T, request: &Wanted, owner: u64) -> bool
+    ensures { result ≡ owner_conflicts (T.marking locks.now) request.now.key request.now.range.start
+        request.now.range.end request.now.kind owner }
 {
     let mut found = [false];
     locks.find_conflicting_owners(

@@ -1,4 +1,5 @@
-//! The search for a circle of owners who wait: who blocks whom is asked of the table of locks and the parked requests.
+//! The search for a circle of owners who wait: who blocks whom is asked of the locks that are held, by `Conflicts` of
+//! `fl_marks`, and of the parked requests.
 //!
 //! `laws` says in words what a circle is. A lock has to wait exactly if an owner blocks it. A request closes a circle
 //! exactly if there is a path of owners, at least one: the first blocks the request, each waits for the next, and the

@@ -13,7 +13,7 @@ ghost use Rattle.fl_ranges.specs.Inside.Contenders.{span_conflicts};
 use crate::asked::{all_set, set_all, skip_less, skip_same};
 use crate::contenders::{conflicting_span, first_of_class, owner_at};
 use crate::table::Table;
-use fl_marks::{Key, Kind, Mark, Range};
+use fl_marks::{Conflicts, Key, Kind, Mark, Range};
 use fl_spans::{Cursor, Rows, Span};
 
 impl Table {
@@ -50,6 +50,21 @@ impl Table {
             owners.now found.old found.new }
     {
         find_among(&self.rows, key, range, kind, owners, found);
+    }
+}
+
+impl Conflicts for Table {
+    ghost marking = { λ t. t.marking };
+
+    fn find_conflicting_owners(
+        &self,
+        key: &Key,
+        range: &Range,
+        kind: Kind,
+        owners: &[u64],
+        found: &mut [bool],
+    ) {
+        Table::find_conflicting_owners(self, key, range, kind, owners, found);
     }
 }
 

@@ -12,7 +12,7 @@ leads_back-requires-clause-sorted g c =
 
 pub returns : goal.returns
 returns g c =
-    let m = c.args.locks.now.marking in
+    let m = g.T.Conflicts.marking c.args.locks.now in
     let count = c.copy_wanted-count.result in
     let copied = take count c.copy_wanted-count.new.room in
     let long : length c.copy_wanted-count.new.room ≡ g.row.N = c.copy_wanted-count.auto.room ∙ length-replicate g.row.N c.args.asked in

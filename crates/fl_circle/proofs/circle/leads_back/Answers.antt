@@ -17,7 +17,7 @@ reach-requires-clause-by_owner g c = λ i j h k same.
 
 pub loop-place-init : goal.loop-place-init
 loop-place-init g c =
-    let h : Wanted → ℕ → Bool = blocks_among c.args.rules c.args.locks.now.marking c.args.wanted.now in
+    let h : Wanted → ℕ → Bool = blocks_among c.args.rules (g.T.Conflicts.marking c.args.locks.now) c.args.wanted.now in
     starts g.row.N h c.args.wanted.now c.args.asked.now (take (length c.args.wanted.now) (replicate g.row.N false)) c.reach.new.reached
     (unset_part (length c.args.wanted.now) g.row.N) (c.reach.auto.reached
     ∙ length-take-le (length c.args.wanted.now) (replicate g.row.N false) (omega (arith, length-replicate g.row.N false, c.requires.few)))
@@ -25,7 +25,7 @@ loop-place-init g c =
 
 pub returns-then-waits_for : goal.returns-then-waits_for
 returns-then-waits_for g c =
-    let h : Wanted → ℕ → Bool = blocks_among c.args.rules c.args.locks.now.marking c.args.wanted.now in
+    let h : Wanted → ℕ → Bool = blocks_among c.args.rules (g.T.Conflicts.marking c.args.locks.now) c.args.wanted.now in
     sym (finds g.row.N h c.args.wanted.now c.args.asked.now c.loop-place.reached c.loop-place.visited c.loop-place.invariant c.in-Some.place
     c.index-wanted-place.result (omega (arith, c.loop-place.invariant.wide, c.in-Some.ensures.0)) (sym c.index-wanted-place.is) c.in-Some.ensures.1 (sym c.if-waits_for.ensures))
 
@@ -38,7 +38,7 @@ loop-place-smaller g c =
 
 pub loop-place-preserved : goal.loop-place-preserved
 loop-place-preserved g c =
-    let h : Wanted → ℕ → Bool = blocks_among c.args.rules c.args.locks.now.marking c.args.wanted.now in
+    let h : Wanted → ℕ → Bool = blocks_among c.args.rules (g.T.Conflicts.marking c.args.locks.now) c.args.wanted.now in
     goes_on g.row.N h c.args.wanted.now c.args.asked.now c.loop-place.reached c.loop-place.visited
     c.loop-place.invariant c.reach-in-Some.new.reached c.in-Some.place c.index-wanted-place.result
     (omega (arith, c.loop-place.invariant.wide, c.in-Some.ensures.0)) (sym c.index-wanted-place.is) c.in-Some.ensures.1 (sym c.if-waits_for.ensures)
@@ -48,6 +48,6 @@ loop-place-preserved g c =
 pub returns : goal.returns
 returns g c =
     let asked = c.args.asked.now in
-    sym (ends g.row.N (blocks_among c.args.rules c.args.locks.now.marking c.args.wanted.now) c.args.wanted.now asked c.loop-place.reached c.loop-place.visited
+    sym (ends g.row.N (blocks_among c.args.rules (g.T.Conflicts.marking c.args.locks.now) c.args.wanted.now) c.args.wanted.now asked c.loop-place.reached c.loop-place.visited
     c.loop-place.invariant (λ i h. c.in_default.ensures i (omega (arith, c.loop-place.invariant.wide, h)))
-    (blocks_not_itself c.args.rules c.args.locks.now.marking (waiter_among c.args.wanted.now asked)))
+    (blocks_not_itself c.args.rules (g.T.Conflicts.marking c.args.locks.now) (waiter_among c.args.wanted.now asked)))

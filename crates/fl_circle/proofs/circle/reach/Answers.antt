@@ -5,7 +5,7 @@ use Rattle.fl_circle.proofs.Among.{in_parts, no_flock, older_by}
 use Rattle.fl_circle.proofs.circle.reach.Goals as goal
 
 pub returns-then-rules : goal.returns-then-rules
-returns-then-rules c i h =
+returns-then-rules g c i h =
     let request = c.args.request.now in
     let wanted = c.args.wanted.now in
     let owner = slice_index_or c.args.owners.now i 0 in

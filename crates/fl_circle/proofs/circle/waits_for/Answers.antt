@@ -5,7 +5,7 @@ use Rattle.fl_circle.proofs.Among.{in_parts, no_flock, older_by}
 use Rattle.fl_circle.proofs.circle.waits_for.Goals as goal
 
 pub returns-then-rules : goal.returns-then-rules
-returns-then-rules c =
+returns-then-rules g c =
     let request = c.args.request.now in
     let wanted = c.args.wanted.now in
     let older = list_any (precedes_by request c.args.owner) wanted in
