@@ -1,6 +1,6 @@
 //! `lockd`: keeps the locks of a directory of lock files. `lockd_cli` reads the command line, and each command is a
-//! function of `lockd_commands` or of `lockd_serve`; `lockd_stdio` runs those that read standard input. Where a trace
-//! goes, and whether orders are refused when its file can't be written, are contracts (`opened`, `when_full`).
+//! function of `lockd_commands`, `lockd_drive` or `lockd_serve`; `lockd_stdio` runs those that read standard input. Where
+//! a trace goes, and whether orders are refused when its file can't be written, are contracts (`opened`, `when_full`).
 //! Contracts let through:
 //! - a `run` that runs another command than is asked for;
 //! - a function of a command (`serve`, `serve_opened`, `resume`) that gives it other rules or workers, another path,

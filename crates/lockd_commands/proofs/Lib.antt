@@ -1,8 +1,4 @@
-pub mod ActionLemmas
 pub mod CheckLemmas
-pub mod DriveLemmas
-pub mod ExchangeLemmas
-pub mod FillLemmas
 pub mod HexLemmas
 pub mod LocksLemmas
 pub mod ReplyLemmas

@@ -1,6 +1,5 @@
 pub mod Bytes
 pub mod Check
-pub mod Drive
 pub mod Faults
 pub mod Hex
 pub mod Locks

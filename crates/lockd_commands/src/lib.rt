@@ -1,17 +1,12 @@
-//! The commands of `lockd` but `serve`, as functions: `script`, `check`, `locks` and `bytes` over a reader and two
-//! writers, and `drive`, a client of a server; and what `--verbose` says of what they read.
+//! The commands of `lockd` but `serve` and `drive`, as functions: `script`, `check`, `locks` and `bytes` over a reader
+//! and two writers; and what `--verbose` says of what they and `drive` read.
 //!
-//! Contracts see no failure of a reader or a writer, and nothing of a socket. They let through:
+//! Contracts see no failure of a reader or a writer. They let through:
 //! - a command that prints its fault in part, or not at all;
 //! - one that tells `no memory`, or a read or a write that failed, though none did;
 //! - one that ends well though its output couldn't be flushed;
 //! - a `locks_on` that tells `differs N` in part, or not at all;
 //! - a `check_on` or a `locks_on` that gives other details of its lines, or none (`tests/commands/words.py`);
-//! - a `drive_on` that sends nothing, connects elsewhere, waits before it sends, doesn't close, or says `no memory`
-//!   at an empty path;
-//! - a `drive_on` that prints replies which didn't come from the socket (`try_stored_replies` in
-//!   `tests/serve/sockets.py`);
-//! - one that says another reason why it isn't connected, or none (`tests/commands/words.py`);
 //! - a `Kept` that keeps another text, and an `explain_trace`, `explain_script`, `explain_hex` or `explain_streams`
 //!   that says anything else (`tests/commands/words.py`, `tests/commands/texts.py`).
 //!
@@ -22,20 +17,15 @@
 //! `script`, `check` and `bytes`.
 #![tactic(auto)]
 
-mod actions;
 mod bytes;
 mod check;
-mod drive;
-mod exchange;
 mod kept;
 mod locks;
-mod reply;
 mod script;
 mod verbose;
 
 pub use bytes::bytes_on;
 pub use check::{CheckOptions, check_on};
-pub use drive::drive_on;
 pub use fl_core::Rules;
 pub use fl_judge::Details;
 pub use kept::Kept;

@@ -1,7 +1,7 @@
 //! The commands of `lockd` that read standard input, over the process's own streams; what `--verbose` adds, of a server
 //! too; and what holds the place of a standard stream that is closed.
 //!
-//! Each command is a function of `lockd_commands`, and has its contract there. Contracts let through:
+//! Each command is a function of `lockd_commands` or `lockd_drive`, and has its contract there. Contracts let through:
 //! - a function of a command (`script` .. `drive`) that gives it other rules or flags, or another path, or has another
 //!   status;
 //! - any line of `--verbose`, and one without that option;

@@ -5,9 +5,9 @@ use crate::host::Host;
 use crate::words::explain_unconnected;
 use lockd_commands::{
     CheckOptions, CommandFault, Details, Kept, LocksOptions, Noting, Rules, Status, bytes_on,
-    check_on, drive_on, explain_hex, explain_script, explain_streams, explain_trace, locks_on,
-    script_on,
+    check_on, explain_hex, explain_script, explain_streams, explain_trace, locks_on, script_on,
 };
+use lockd_drive::drive_on;
 use std::io;
 use std::io::{ErrorKind, Write};
 use std::path::Path;

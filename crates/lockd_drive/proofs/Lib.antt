@@ -1,0 +1,4 @@
+pub mod ActionLemmas
+pub mod DriveLemmas
+pub mod ExchangeLemmas
+pub mod FillLemmas
