@@ -184,15 +184,23 @@ fn is_judged(rt: &impl Abort, alloc: Global, text: &str, fair: bool, wanted: Ver
     assert!(rt; verdict != Verdict::Legal || found == still);
 }
 
+// How many slots are free for runs of locks, parked requests, nodes, names and open files.
+fn free_slots(desk: &Desk) -> [usize; 5] {
+    let arenas = desk.arenas();
+    let directory = &arenas.directory;
+    [
+        arenas.locks.free(),
+        arenas.parked.free(),
+        directory.nodes.free(),
+        directory.names.free(),
+        directory.files.free(),
+    ]
+}
+
 #[test]
 fn a_desk_lends_its_arenas(rt: HostRuntime) {
     let desk = Desk::new(rt.alloc(), Rules::standard()).expect(&rt, "memory");
-    let arenas = desk.arenas();
-    assert_eq!(&rt; arenas.locks.free(), 4096);
-    assert_eq!(&rt; arenas.parked.free(), 1024);
-    assert_eq!(&rt; arenas.directory.nodes.free(), 256);
-    assert_eq!(&rt; arenas.directory.names.free(), 256);
-    assert_eq!(&rt; arenas.directory.files.free(), 1024);
+    assert!(&rt; free_slots(&desk) == [4096, 1024, 256, 256, 1024]);
 }
 
 #[test]

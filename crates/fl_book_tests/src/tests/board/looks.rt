@@ -97,6 +97,20 @@ fn warms<L: BoardName, R: Wait>(rt: &R, board: &Board<L, &R>, seats: &mut [Seat<
     }
 }
 
+// It takes sixteen orders at once.
+fn sixteen<L: BoardName, R: Wait + Abort>(
+    rt: &R,
+    alloc: Global,
+    rules: Rules,
+    board: &Board<L, &R>,
+    seats: &mut [Seat<L>],
+)
+    requires { rules ≡ L.rules }
+{
+    let batch = [order(1, 1, Op::Getattr); 16];
+    handed_in(rt, alloc, rules, board, seats, &batch, &[1; 16]);
+}
+
 // A board takes sixteen orders, 32 after a look, and as many once copies were made anew.
 fn idle<L: BoardName, R: Wait + Abort>(
     rt: &R,
@@ -111,15 +125,14 @@ fn idle<L: BoardName, R: Wait + Abort>(
     requires parts { (1 ≡ L.parts) × (L.workers ≡ L.parts) }
 {
     let (board, mut seats) = opened::<L, R>(rt, alloc, blank, log, 1, rules);
-    let batch = [order(1, 1, Op::Getattr); 16];
-    handed_in(rt, alloc, rules, &board, &mut seats, &batch, &[1; 16]);
+    sixteen(rt, alloc, rules, &board, &mut seats);
     assert!(rt; finds(&board, &mut seats));
-    handed_in(rt, alloc, rules, &board, &mut seats, &batch, &[1; 16]);
-    handed_in(rt, alloc, rules, &board, &mut seats, &batch, &[1; 16]);
+    sixteen(rt, alloc, rules, &board, &mut seats);
+    sixteen(rt, alloc, rules, &board, &mut seats);
     assert!(rt; !finds(&board, &mut seats));
     warms(rt, &board, &mut seats);
-    handed_in(rt, alloc, rules, &board, &mut seats, &batch, &[1; 16]);
-    handed_in(rt, alloc, rules, &board, &mut seats, &batch, &[1; 16]);
+    sixteen(rt, alloc, rules, &board, &mut seats);
+    sixteen(rt, alloc, rules, &board, &mut seats);
     assert!(rt; finds(&board, &mut seats));
     closed(rt, board, seats)
 }
