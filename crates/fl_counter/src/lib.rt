@@ -2,9 +2,8 @@
 //! the replies to an order and to a batch of orders. And what replicas need of a lock directory.
 //!
 //! `Counter` and `LockDirectory` state contracts, which a board of `fl_board` and a core of `fl_core` keep. What an
-//! order does is defined above. Contracts let
-//! through a `pause` that does nothing, and a `Tolds::new` that is always refused, or has more room than its rules want;
-//! tests refuse these.
+//! order does is defined above. Contracts let through a `pause` that does nothing, and a `Tolds::new` that is always
+//! refused, or has more room than its rules want; tests refuse these.
 #![tactic(auto)]
 
 mod counter;

@@ -3,28 +3,28 @@
 ghost use Rattle.std.specs.Prelude.{◌≡◌, ◌↔◌, true, List, IfOk, IsSome};
 ghost use Rattle.fl_counter.specs.Tolds.{HasRoom, own_replies};
 ghost use Rattle.fl_order.specs.Order.{only_reads};
-ghost use Rattle.fl_order.specs.declared.order.Order.{Order as Step};
+ghost use Rattle.fl_order.specs.declared.order.Order.{Order};
 ghost use Rattle.fl_order.specs.declared.told.Told.{Told};
-ghost use Rattle.fl_waiting.specs.declared.rules.Rules.{Rules as Waiting};
+ghost use Rattle.fl_waiting.specs.declared.rules.Rules.{Rules};
 
 use crate::tolds::Tolds;
 use fl_order::{Answer, Errno, NoMemory, Order};
 use fl_waiting::Rules;
 use std::alloc::Global;
 
-/// A lock directory. Copies that take the same orders stay the same.
+/// A lock directory, of which replicas take the same orders.
 pub trait LockDirectory: Drop {
     /// By which rules requests wait.
-    ghost rules: { Self → Waiting };
+    ghost rules: { Self → Rules };
 
     /// What is there before the first order, under these rules.
-    ghost opening: { Waiting → Self };
+    ghost opening: { Rules → Self };
 
     /// What is there after an order.
-    ghost next: { Self → Step → Self };
+    ghost next: { Self → Order → Self };
 
     /// The replies that an order gives.
-    ghost replies: { Self → Step → List Told };
+    ghost replies: { Self → Order → List Told };
 
     /// By which rules requests wait.
     fn rules(&self) -> Rules
@@ -43,12 +43,7 @@ pub trait LockDirectory: Drop {
 
     /// Takes an order that was told this itself, a reply or none yet, and nobody else anything. What `tolds` has
     /// afterwards is left open; its room stays.
-    fn replay(
-        &mut self,
-        order: &Order,
-        reply: &Option<Result<Answer, Errno>>,
-        tolds: &mut Tolds,
-    )
+    fn replay(&mut self, order: &Order, reply: &Option<Result<Answer, Errno>>, tolds: &mut Tolds)
         requires alone { replies self.old order.now ≡ own_replies order.now reply.now }
         requires room { HasRoom (rules self.old) tolds.old }
         ensures next { self.new ≡ next self.old order.now }
