@@ -4,7 +4,7 @@ use Rattle.std.proofs.lemmas.Bool.Decides.{nat_tests}
 use Rattle.std.specs.Prelude.{if◌then◌else◌}
 use mathlib.Core.List.{IsPrefix}
 use Rattle.fl_board.proofs.Histories.{history_goes_on}
-use Rattle.fl_board.specs.Inside.Asks.{lines_from, history_of}
+use Rattle.fl_board.specs.Inside.Asks.{lines_from, history_of, present_after}
 use Rattle.fl_board.specs.Seats.{Place}
 use Rattle.fl_board.specs.Shown.{IsHandedIn}
 use Rattle.fl_core.specs.State.{Snapshot}
@@ -13,7 +13,6 @@ use Rattle.fl_history.specs.declared.history.Line.{Line}
 use Rattle.fl_history.specs.declared.history.Line.TheVariants as line
 use Rattle.fl_order.specs.declared.order.Order.{Order}
 use Rattle.fl_order.specs.declared.told.Told.{Told}
-use Rattle.fl_replica.specs.Asks.{present_after}
 use Rattle.fl_log.specs.Asked.{Ask}
 use Rattle.fl_waiting.specs.declared.rules.Rules.{Rules}
 

@@ -4,7 +4,7 @@ use Rattle.std.proofs.lemmas.List.{append-nil}
 use Rattle.std.proofs.lemmas.List.Sums.{fold-append}
 use Rattle.std.specs.List.{fold}
 use mathlib.Core.List.{IsPrefix}
-use Rattle.fl_board.specs.Inside.Asks.{lines_in, lines_from, history_of}
+use Rattle.fl_board.specs.Inside.Asks.{lines_in, lines_from, history_of, stepped, present_after}
 use Rattle.fl_core.specs.State.{Snapshot, opening, snapshot_of}
 use Rattle.fl_core.specs.Step.{next, replies}
 use Rattle.fl_desk.specs.Leading.{LeadsTo}
@@ -14,7 +14,6 @@ use Rattle.fl_history.specs.declared.history.Line.TheVariants as line
 use Rattle.fl_order.specs.declared.order.Order.{Order}
 use Rattle.fl_order.specs.declared.told.Told.{Told}
 use Rattle.fl_log.specs.Asked.{Ask}
-use Rattle.fl_replica.specs.Asks.{stepped, present_after}
 use Rattle.fl_waiting.specs.declared.rules.Rules.{Rules}
 
 -- one ask more

@@ -1,12 +1,11 @@
 //! What asks lead to.
 
 ghost use Rattle.std.specs.Prelude.{◌≡◌, List};
-ghost use Rattle.fl_board.specs.Inside.Asks.{history_of};
+ghost use Rattle.fl_board.specs.Inside.Asks.{history_of, present_after};
 ghost use Rattle.fl_core.specs.State.{snapshot_of};
 ghost use Rattle.fl_desk.specs.Legal.{IsLegal};
 ghost use Rattle.fl_desk.specs.Replay.{state_after};
 ghost use Rattle.fl_log.specs.Asked.{Ask};
-ghost use Rattle.fl_replica.specs.Asks.{present_after};
 ghost use Rattle.fl_waiting.specs.declared.rules.Rules.{Rules};
 
 use fl_desk::laws::an_order_leads_on;

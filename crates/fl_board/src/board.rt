@@ -14,7 +14,7 @@ ghost use Rattle.fl_order.specs.Order.{only_reads};
 
 use crate::seat::Seat;
 use crate::shared::Shared;
-use fl_core::{Rules, Tolds};
+use fl_core::{Core, Rules, Tolds};
 use fl_desk::{HandFault, NoView, Outgoing, ToldLists};
 use fl_history::{History, Journal, Lines};
 use fl_log::{Ask, Beginning, FreshLog};
@@ -393,7 +393,7 @@ fn pause<W: Wait>(rt: &W) {
 // A seat for each worker, with a part of the ledger.
 fn seats_of<L: BoardName, R: Wait + Drop + Copy>(
     alloc: Global,
-    writer: &ReplicaWriter<L, R>,
+    writer: &ReplicaWriter<L, Core, R>,
     none: &Beginning<L, Ask>,
     parts: Share<L>,
     workers: u32,

@@ -11,7 +11,7 @@ ghost use Rattle.fl_log.specs.Asked.{Ask as Handed, ask_of};
 
 use crate::asks::asks_lead;
 use crate::seat::Seat;
-use fl_core::Tolds;
+use fl_core::{Core, Tolds};
 use fl_desk::{Desk, HandFault, ToldLists};
 use fl_history::Journal;
 use fl_log::{AsAsk, Ask, Asking, Beginning, Log, MOST_ENTRIES};
@@ -32,15 +32,14 @@ pub(crate) struct Record<L: BoardName, R: Wait + Drop + Copy, J: Journal> {
     pub book: Book<L>,
     pub log: Log<L, Ask>,
     pub all: Beginning<L, Ask>,
-    pub writer: ReplicaWriter<L, R>,
+    pub writer: ReplicaWriter<L, Core, R>,
 }
 
 impl<L: BoardName, R: Wait + Drop + Copy, J: Journal> Model for Record<L, R, J> {
     ghost use Rattle.std.specs.Prelude.{◌≡◌};
-    ghost use Rattle.fl_board.specs.Inside.Asks.{history_of};
+    ghost use Rattle.fl_board.specs.Inside.Asks.{history_of, present_after};
     ghost use Rattle.fl_desk.specs.Legal.{orders_asked};
     ghost use Rattle.fl_board.specs.Inside.Recorded.{Recorded};
-    ghost use Rattle.fl_replica.specs.Asks.{present_after};
 
     ghost Value = { Recorded };
 

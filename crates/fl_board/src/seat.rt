@@ -9,6 +9,7 @@ ghost use Rattle.fl_board.specs.Shown.{IsShown, KeepsHanded};
 ghost use Rattle.fl_order.specs.Order.{only_reads};
 
 use crate::asks::asks_lead;
+use fl_core::Core;
 use fl_desk::NoView;
 use fl_log::{Ask, Beginning};
 use fl_order::{Answer, Errno, Order};
@@ -22,7 +23,7 @@ use std::sync::ledger::Share;
 pub struct Seat<L: BoardName> {
     pub(crate) worker: u32,
     pub(crate) share: Share<L>,
-    pub(crate) reader: ReplicaReader<L>,
+    pub(crate) reader: ReplicaReader<L, Core>,
     pub(crate) handed: Beginning<L, Ask>,
     pub(crate) seen: Beginning<L, Ask>,
     pub(crate) stored: Beginning<L, Ask>,

@@ -19,6 +19,7 @@
 mod arenas;
 mod ending;
 pub mod laws;
+mod lock_directory;
 mod locking;
 mod parts;
 mod replay;

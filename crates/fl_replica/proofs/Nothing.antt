@@ -1,16 +1,13 @@
--- An update with no asks leaves all asks as they are.
-use Rattle.std.proofs.Common.{◌≡◌, ℕ, ◌<◌, false, List, [], ◌∷◌, length, ap, ◌∙◌, arith}
-use Rattle.std.proofs.lemmas.Bool.Decides.{nat_tests}
+-- An update that leads to the asks that are there leaves them as they are.
+use Rattle.std.proofs.Common.{◌≡◌, Bool, true, false, List, length, refl, sym, ◌∙◌}
 use Rattle.std.specs.Prelude.{cond, nat_eq}
 use Rattle.fl_replica.specs.Asks.{Extension}
 use Rattle.fl_replica.specs.Inside.Updates.{extended}
 use Rattle.fl_log.specs.Asked.{Ask}
 
-some_is_not_none : (n : ℕ) → 0 < n → nat_eq n 0 ≡ false
-some_is_not_none n some = grind (arith, nat_tests)
+either : (b : Bool) (after asks : List Ask) → after ≡ asks → cond b after asks ≡ asks
+either true after asks same = same
+either false after asks same = refl
 
-pub changes_nothing : (asks : List Ask) (e : Extension) → e.before ≡ [] → e.after ≡ [] → extended asks e ≡ asks
-changes_nothing [] e before after = ap (λ asks. cond (nat_eq 0 (length asks)) e.after []) before ∙ after
-changes_nothing (first ∷ asks) e before after =
-    ap (λ none. cond (nat_eq (length (first ∷ asks)) (length none)) e.after (first ∷ asks)) before
-    ∙ ap (λ b. cond b e.after (first ∷ asks)) (some_is_not_none (length (first ∷ asks)) (omega arith))
+pub changes_nothing : (was asks : List Ask) (e : Extension) → was ≡ asks → e.after ≡ asks → extended was e ≡ asks
+changes_nothing was asks e is after = either (nat_eq (length was) (length e.before)) e.after was (after ∙ sym is) ∙ is

@@ -1,19 +1,12 @@
 -- What is there after asks, one after another, and an order that leads on.
 use Rattle.std.specs.Prelude.{List, Option}
 use Rattle.std.specs.List.{fold}
-use Rattle.fl_core.specs.State.{Snapshot, opening, snapshot_of}
-use Rattle.fl_core.specs.Step.{next}
 use Rattle.fl_log.specs.Asked.{Ask}
 use Rattle.fl_order.specs.declared.order.Order.{Order}
-use Rattle.fl_waiting.specs.declared.rules.Rules.{Rules}
 
--- what is there after an ask
-abbrev pub stepped : Snapshot → Ask → Snapshot
-stepped p ask = next p ask.order
-
--- what is there after these asks, under these rules
-abbrev pub present_after : Rules → List Ask → Snapshot
-present_after rules asks = fold stepped (snapshot_of (opening rules)) asks
+-- what is there after these asks: by what is there after an order, and what is there before the first
+abbrev pub present_after : {S : Type 0} → (S → Order → S) → S → List Ask → S
+present_after next opening asks = fold (λ present ask. next present ask.order) opening asks
 
 -- an order, with the asks before it and with it
 pub record Extension : Type 0 where

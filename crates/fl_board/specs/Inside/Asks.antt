@@ -3,12 +3,20 @@ use Rattle.std.specs.Prelude.{◌≤◌, List, [], ◌∷◌, ◌++◌, length}
 use mathlib.Core.List.{IsPrefix}
 use Rattle.fl_board.specs.Seats.{Place}
 use Rattle.fl_core.specs.State.{Snapshot, opening, snapshot_of}
-use Rattle.fl_core.specs.Step.{replies}
+use Rattle.fl_core.specs.Step.{next, replies}
 use Rattle.fl_counter.specs.Answered.{answered_by, step_lines}
 use Rattle.fl_history.specs.declared.history.Line.{Line}
 use Rattle.fl_log.specs.Asked.{Ask}
-use Rattle.fl_replica.specs.Asks.{stepped}
+use Rattle.fl_replica.specs.Asks.{present_after as present_from}
 use Rattle.fl_waiting.specs.declared.rules.Rules.{Rules}
+
+-- what is there after an ask
+abbrev pub stepped : Snapshot → Ask → Snapshot
+stepped p ask = next p ask.order
+
+-- what is there after these asks, under these rules
+abbrev pub present_after : Rules → List Ask → Snapshot
+present_after rules asks = present_from next (snapshot_of (opening rules)) asks
 
 -- the lines of an ask
 abbrev pub lines_in : Snapshot → Ask → List Line

@@ -3,8 +3,7 @@ use Rattle.fl_core.specs.State.{opening, snapshot_of}
 use Rattle.fl_desk.specs.Leading.{LeadsTo}
 use Rattle.fl_desk.specs.Legal.{IsLegal}
 use Rattle.fl_desk.specs.Replay.{state_after}
-use Rattle.fl_replica.specs.Asks.{present_after}
-use Rattle.fl_board.specs.Inside.Asks.{history_of}
+use Rattle.fl_board.specs.Inside.Asks.{history_of, present_after}
 use Rattle.fl_board.proofs.Histories.{asks_from, same_rules}
 use Rattle.fl_board.proofs.asks.asks_lead.Goals as goal
 

@@ -5,4 +5,4 @@ use Rattle.fl_replica.proofs.replica_writer.add_nothing.Given as goal
 
 -- all that was added changes nothing
 abbrev pub invariant-loop : goal.invariant-loop
-invariant-loop g l = in_the_end (published l.writer) (pending l.writer) ≡ in_the_end (published l.fn.writer) (pending l.fn.writer)
+invariant-loop g l = in_the_end (published l.writer) (pending l.writer) ≡ l.asks

@@ -12,8 +12,7 @@ use Rattle.fl_desk.specs.Legal.{orders_asked}
 use Rattle.fl_desk.specs.Replay.{state_after}
 use Rattle.fl_log.specs.Asked.{Ask}
 use Rattle.fl_waiting.specs.declared.rules.Rules.{Rules}
-use Rattle.fl_replica.specs.Asks.{present_after}
-use Rattle.fl_board.specs.Inside.Asks.{HasMostOf, history_of}
+use Rattle.fl_board.specs.Inside.Asks.{HasMostOf, history_of, present_after}
 use Rattle.fl_board.specs.Seats.{Place}
 use Rattle.fl_board.proofs.Boards.{step_asks_one_order}
 use Rattle.fl_board.proofs.Counts.{one_more_by, orders_by}

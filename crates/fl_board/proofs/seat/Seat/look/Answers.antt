@@ -2,7 +2,7 @@ use Rattle.std.proofs.Common.{rules, ◌≡◌, Some, refl, ap, sym, ◌∙◌}
 use Rattle.fl_counter.specs.Tolds.{own_replies}
 use Rattle.fl_core.specs.State.{Snapshot}
 use Rattle.fl_core.specs.Step.{replies}
-use Rattle.fl_replica.specs.Asks.{present_after}
+use Rattle.fl_board.specs.Inside.Asks.{present_after}
 use Rattle.fl_board.proofs.seat.Seat.look.Goals as goal
 
 pub returns-clause-shown : goal.returns-clause-shown

@@ -1,8 +1,8 @@
 use Rattle.std.proofs.Common.{◌≡◌, [], ◌∙◌, ap, refl, sym}
-use Rattle.fl_board.specs.Inside.Asks.{history_of}
+use Rattle.fl_board.specs.Inside.Asks.{history_of, present_after}
 use Rattle.fl_core.specs.State.{opening, snapshot_of}
 use Rattle.fl_desk.specs.Legal.{orders_asked}
-use Rattle.fl_replica.specs.Asks.{Publication, present_after}
+use Rattle.fl_replica.specs.Asks.{Publication}
 use Rattle.fl_board.proofs.shared.Shared.over.Goals as goal
 
 pub invariant_of-record : goal.invariant_of-record
