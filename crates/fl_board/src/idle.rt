@@ -5,8 +5,8 @@ use fl_core::Rules;
 /// How many orders were handed in together since somebody looked, and how many it takes until the copies that looks
 /// read are let go. It concerns only how fast a board is.
 ///
-/// It takes one order for each slot of the core: to update both copies for so many takes about as long as to make new
-/// ones. Copies that were made anew stay, so a board wastes no more on copies than that, twice.
+/// It takes one order for each slot of the core. To update both copies for so many orders costs about what new copies
+/// cost. Copies that were made anew stay. So a board spends at most twice that on copies that nobody reads.
 #[derive(Drop)]
 pub(crate) struct Idle {
     orders: u64,
