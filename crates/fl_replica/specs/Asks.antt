@@ -4,7 +4,7 @@ use Rattle.std.specs.List.{fold}
 use Rattle.fl_log.specs.Asked.{Ask}
 use Rattle.fl_order.specs.declared.order.Order.{Order}
 
--- what is there after these asks: by what is there after an order, and what is there before the first
+-- what is there after these asks: `next` says what is there after an order, and `opening` what is there at first
 abbrev pub present_after : {S : Type 0} → (S → Order → S) → S → List Ask → S
 present_after next opening asks = fold (λ present ask. next present ask.order) opening asks
 

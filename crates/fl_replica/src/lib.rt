@@ -1,5 +1,5 @@
 //! The read replicas of a directory: two copies that follow the log of its orders. Workers read them without the lock.
-//! A directory is what keeps the contract of `fl_counter::LockDirectory`, as a core does.
+//! A directory is any type with the trait `fl_counter::LockDirectory`, as `Core` of `fl_core`.
 //!
 //! A `ReplicaWriter` publishes orders to both. A replica stands for a beginning of the log, whose entries are `Ask`s. It
 //! takes an update only if it stands for the asks before that update, so folding never fails.

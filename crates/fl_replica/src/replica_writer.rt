@@ -246,7 +246,8 @@ fn nothing<L: BoardName, C: LockDirectory>(core: &C, asks: &Beginning<L, Ask>) -
     ensures { (result.before ≡ asks.now) × (result.after ≡ asks.now) }
 {
     let order = Order {
-        unique: 0,
+        // Greater than that of any request that is parked, but for one of a client that chose it: none is looked for.
+        unique: u64::MAX,
         node: 1,
         uid: 0,
         gid: 0,

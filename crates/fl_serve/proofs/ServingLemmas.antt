@@ -71,7 +71,7 @@ last_is_left true messages goodbye last none = go goodbye (last refl).answer
 last_is_left false messages goodbye last none = ap last_words (none refl)
 
 -- whose receiver, and whose workers, gave all that was given
-pub all_given : (rules : Rules) (workers : ℕ) (it : Reception) (start : Option (List ℕ)) (out : Outgoing)
+all_given : (rules : Rules) (workers : ℕ) (it : Reception) (start : Option (List ℕ)) (out : Outgoing)
     (sents : List (Appended ReplyEntry)) (places : List Place) (orders : Weight → ℕ) (any lost whole : Bool)
     → (received : HasReceived it) → it.sent ≡ record { author = workers; count = 0; upto = [] }
     → (did : HaveDone by_place (IsAnsweredAfter rules) orders places sents any lost)
@@ -170,7 +170,7 @@ closed_as lines stored places known any told it closed =
     ⊎_elim (λ all. inl all) (λ none. inr (none.0, ap (journal_lines lines) none.1, none.2)) closed
 
 -- what a session did whose receiver ended
-pub served_by : (rules : Rules) (workers : ℕ) (it : Reception) (start held : Option (List ℕ)) (broken : Bool)
+served_by : (rules : Rules) (workers : ℕ) (it : Reception) (start held : Option (List ℕ)) (broken : Bool)
     (sents : List (Appended ReplyEntry)) (places : List Place) (orders : Weight → ℕ) (any lost whole : Bool)
     (told : Option Fault) (stored : List Line) (done : Done)
     → HasReceived it → it.sent ≡ record { author = workers; count = 0; upto = [] }

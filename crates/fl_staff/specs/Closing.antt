@@ -1,4 +1,4 @@
--- How the last is said in a session.
+-- How a session says goodbye.
 use Rattle.std.specs.Prelude.{◌≡◌, ℕ, ◌+◌, Bool, true, List, [], ◌∷◌, ◌++◌, All, length, Option, map, sum_by}
 use Rattle.fl_log.specs.Appended.{Appended, HasAll}
 use Rattle.fl_log.specs.Growing.{Grows}

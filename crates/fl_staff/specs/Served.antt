@@ -23,9 +23,9 @@ use Rattle.fl_workers.specs.declared.entry.ReplyEntry.{ReplyEntry}
 abbrev pub IsUnused : {S : Type 0} → Reading S → S → Type 0
 IsUnused r seat = (r.count seat ≡ 0) × (r.answered seat ≡ []) × (r.front seat ≡ []) × (r.stored seat ≡ [])
 
--- Orders were received, and all of them worked on at these seats, whose workers gave this to be sent; the receiver gave
--- its own answers, and the answer to a DESTROY last. The writer has what was given, as far as it isn't broken. If it is
--- known, nothing that was owed was lost on the way to the writer's log, which is whole. The fault is that of the end.
+-- All orders that were received were worked on at these seats. The workers gave what they owe to be sent, the receiver
+-- its own answers, and the answer to a DESTROY last. The writer has what was given, or a prefix if a write failed. If
+-- `known`, nothing that was owed was lost, and the log of what was given is whole. The fault is that of the end.
 pub record HasServed {C S : Type 0} (r : Reading S) (shows : Shows) (workers : ℕ) (streams : Streams) (it : Served C S)
     : Type 0 where
   pub ended : Option Fault
@@ -56,7 +56,7 @@ pub record HasServed {C S : Type 0} (r : Reading S) (shows : Shows) (workers : �
       → IsEnding ended (handshake_of messages).over rest left → EndsBy it.fault broken messages rest left
   pub memory : it.fault ≢ Some NoMemory
 
--- A session that couldn't begin, and read nothing. For want of memory nothing was written.
+-- A session that couldn't begin, and read nothing. If memory ran out, nothing was written.
 pub record HasNotServed (streams : Streams) (fault : Fault) : Type 0 where
   pub why : (fault ≡ NoMemory) ⊎ (fault ≡ NoReader)
   pub unread : Keeps streams.left streams.left_now

@@ -97,7 +97,8 @@ where
     ensures pairs { length result.1.items ≡ length appenders.items }
     ensures room { length result.1.items < vec_capacity result.1 }
     ensures did { (orders : Weight → ℕ) (any lost : Bool)
-        → HaveDone (reading C.worker C.count C.answered C.front C.stored) C.shows orders seats.items appenders.items any lost
+        → HaveDone (reading C.worker C.count C.answered C.front C.stored) C.shows orders seats.items appenders.items
+        any lost
         → HaveDone (reading C.worker C.count C.answered C.front C.stored) C.shows
         (λ weight. orders weight + sum_by weight left.items) result.0.items result.1.items
         (any || result.2.refused) (lost || result.2.lost) }

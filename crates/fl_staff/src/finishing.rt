@@ -23,8 +23,8 @@ use fl_workers::{Counter, Gate, Received, ReplyEntry, ReplyRoom, SharedSender, W
 use std::io::Write;
 use std::sync::Wait;
 
-/// Why a session has nothing to tell of which a worker couldn't be started, so that nothing was read. That the session
-/// hadn't begun is known when it runs, and by no contract.
+/// The fault of a session of which a worker couldn't be started, so that nothing was read; and its writer. That the
+/// session hadn't begun is known when it runs, and by no contract.
 pub(crate) fn unstarted<'w, N: WriterName, W: Write>(
     sender: SharedSender<'w, W, N>,
 ) -> (Fault, &'w mut W)

@@ -1,6 +1,6 @@
 //! A whole session with workers, over any counter, any reader and any writer.
 
-ghost use Rattle.std.specs.Prelude.{◌≡◌, ◌≤◌, ◌<◌, ◌+◌, [], All, IfErr, IfOk, map};
+ghost use Rattle.std.specs.Prelude.{◌≡◌, ◌≤◌, ◌<◌, ◌+◌, All, IfErr, IfOk, map};
 ghost use Rattle.std.specs.List.{range_with_len};
 ghost use Rattle.fl_log.specs.Appended.{unused};
 ghost use Rattle.fl_pool.specs.Running.{CanRun};
@@ -23,9 +23,10 @@ use std::sync::ledger::Blank;
 use std::sync::{Mutex, Wait};
 use std::thread::Threads;
 
-/// Serves a whole session at this counter, whose seats these are, one for each worker of the staff. All memory is made
-/// and all workers are started before the first read. Orders that were read are all handled, also those that no worker
-/// took, and only then is a DESTROY answered. If it can't begin, nothing is read, and the counter is dropped.
+/// Serves a whole session at this counter, whose seats these are, one for each worker of the staff. All memory but the
+/// counter's is made, and all workers are started, before the first read. Orders that were read are all handled, also
+/// those that no worker took, and only then is a DESTROY answered. If it can't begin, nothing is read, and the counter
+/// is dropped.
 pub fn serve_at<
     'w,
     C: Counter + Send + Sync + Drop,
@@ -57,12 +58,13 @@ where
     requires sending { (sending.name ≡ N.name) × (sending.parts ≡ N.parts) × (staff.workers + 1 ≡ N.parts) }
     requires given { given ≡ N.log }
     ensures writer { result.1.ghost_name ≡ N.writer }
-    ensures served { IfOk result.0 (HasServed (reading C.worker C.count C.answered C.front C.stored) C.shows staff.workers (record {
-      left = I.remaining r.old;
-      left_now = I.remaining r.new;
-      held = N.start;
-      held_now = W.contents result.1.now;
-    })) }
+    ensures served { IfOk result.0 (HasServed (reading C.worker C.count C.answered C.front C.stored) C.shows
+        staff.workers (record {
+          left = I.remaining r.old;
+          left_now = I.remaining r.new;
+          held = N.start;
+          held_now = W.contents result.1.now;
+        })) }
     ensures unserved { IfErr result.0 (HasNotServed (record {
       left = I.remaining r.old;
       left_now = I.remaining r.new;
@@ -128,12 +130,13 @@ where
     requires left { HasRoomFor C.most_tolds left }
     requires own { own ≡ unused put.takers }
     ensures writer { result.1.ghost_name ≡ N.writer }
-    ensures served { IfOk result.0 (HasServed (reading C.worker C.count C.answered C.front C.stored) C.shows put.takers (record {
-      left = I.remaining r.old;
-      left_now = I.remaining r.new;
-      held = N.start;
-      held_now = W.contents result.1.now;
-    })) }
+    ensures served { IfOk result.0 (HasServed (reading C.worker C.count C.answered C.front C.stored) C.shows
+        put.takers (record {
+          left = I.remaining r.old;
+          left_now = I.remaining r.new;
+          held = N.start;
+          held_now = W.contents result.1.now;
+        })) }
     ensures unserved { IfErr result.0 (HasNotServed (record {
       left = I.remaining r.old;
       left_now = I.remaining r.new;

@@ -97,7 +97,7 @@ fn warms<L: BoardName, R: Wait>(rt: &R, board: &Board<L, &R>, seats: &mut [Seat<
     }
 }
 
-// It takes sixteen orders at once.
+// The board takes sixteen orders at once.
 fn sixteen<L: BoardName, R: Wait + Abort>(
     rt: &R,
     alloc: Global,
