@@ -1,34 +1,12 @@
 -- A batch of orders that was handed in.
-use Rattle.std.proofs.Common.{◌≡◌, ◌+◌, ◌<◌, ◌≤◌, List, [], ◌∷◌, ◌++◌, length, refl, ap, sym, ◌∙◌, subst, arith}
-use Rattle.std.proofs.Math.ListN.{get_or}
-use Rattle.fl_board.proofs.Answering.{handed_in_last}
-use Rattle.fl_board.specs.Inside.Recorded.{all_stored}
-use Rattle.fl_board.specs.Seats.{Place}
-use Rattle.fl_board.specs.Shown.{AreHandedIn, IsHandedIn}
-use Rattle.fl_counter.specs.Answered.{AreAnsweredLast, answered_by}
+use Rattle.std.proofs.Common.{◌≡◌, ◌+◌, ◌<◌, ◌≤◌, List, [], ◌∷◌, length, refl, ap, sym, ◌∙◌, subst, arith}
+use Rattle.fl_counter.specs.Answered.{AreAnsweredLast, IsAnsweredLast, answered_by}
 use Rattle.fl_order.specs.declared.order.Order.{Order}
 use Rattle.fl_order.specs.declared.told.Told.{Told}
+use Rattle.fl_record.specs.Seats.{all_stored}
+use Rattle.fl_record.specs.Seats.{Place}
+use Rattle.fl_record.specs.Shown.{AreHandedIn, IsHandedIn}
 use Rattle.fl_waiting.specs.declared.rules.Rules.{Rules}
-
--- the first order that has no list is handed in, too
-pub handed_more : (rules : Rules) (old mid new : Place) (orders : List Order) (lists : List (List Told)) (order : Order)
-    (tolds : List Told) → length lists < length orders → get_or orders (length lists) order ≡ order
-    → new.worker ≡ mid.worker → IsHandedIn rules mid order tolds new → AreHandedIn rules old orders lists mid
-    → AreHandedIn rules old orders (lists ++ tolds ∷ []) new
-handed_more rules old mid new [] lists order tolds less is same one so_far = absurd (omega (arith, less))
-handed_more rules old mid new (o ∷ orders) [] order tolds less is same one so_far = (
-  new,
-  same ∙ ap (λ (p : Place). p.worker) so_far,
-  subst (λ (p : Place). IsHandedIn rules p o tolds new) so_far
-      (subst (λ (it : Order). IsHandedIn rules mid it tolds new) (sym is) one),
-  refl,
-)
-handed_more rules old mid new (o ∷ orders) (ts ∷ lists) order tolds less is same one so_far = (
-  so_far.0,
-  so_far.1,
-  so_far.2,
-  handed_more rules so_far.0 mid new orders lists order tolds (omega (arith, less)) is same one so_far.3,
-)
 
 -- no more lists than orders
 pub no_more_lists : (rules : Rules) (old new : Place) (orders : List Order) (lists : List (List Told))
@@ -54,16 +32,19 @@ handed_same rules old new (o ∷ orders) (ts ∷ lists) handed =
       omega (arith, rest.1, one.count),
     )
 
--- orders that were handed in at a seat are answered behind all that was handed in there
-pub handed_in_answered : (rules : Rules) (old new : Place) (orders : List Order) (lists : List (List Told))
+-- orders that were handed in at a seat are answered behind all that was handed in there, if each is
+pub handed_in_answered : ((rules : Rules) (old new : Place) (order : Order) (tolds : List Told) → new.worker ≡ old.worker
+    → IsHandedIn rules old order tolds new
+    → IsAnsweredLast (answered_by old.worker old.handed) order tolds (answered_by new.worker new.handed))
+    → (rules : Rules) (old new : Place) (orders : List Order) (lists : List (List Told))
     → AreHandedIn rules old orders lists new
     → AreAnsweredLast (answered_by old.worker old.handed) orders lists (answered_by new.worker new.handed)
-handed_in_answered rules old new orders [] handed = ap (λ (p : Place). answered_by p.worker p.handed) handed
-handed_in_answered rules old new [] (ts ∷ lists) handed = absurd handed
-handed_in_answered rules old new (o ∷ orders) (ts ∷ lists) handed = (
+handed_in_answered law rules old new orders [] handed = ap (λ (p : Place). answered_by p.worker p.handed) handed
+handed_in_answered law rules old new [] (ts ∷ lists) handed = absurd handed
+handed_in_answered law rules old new (o ∷ orders) (ts ∷ lists) handed = (
   answered_by handed.0.worker handed.0.handed,
-  handed_in_last rules old handed.0 o ts handed.1 handed.2,
-  handed_in_answered rules handed.0 new orders lists handed.3,
+  law rules old handed.0 o ts handed.1 handed.2,
+  handed_in_answered law rules handed.0 new orders lists handed.3,
 )
 
 -- ---- what was handed in is stored, too

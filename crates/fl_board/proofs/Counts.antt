@@ -1,22 +1,18 @@
 -- How many orders of each worker a history has.
 use Rattle.std.proofs.Common.{◌≡◌, ◌≢◌, ℕ, suc, ◌+◌, ◌≤◌, ◌==◌, Bool, true, false, cond, List, [], ◌∷◌, ◌++◌, All}
-use Rattle.std.proofs.Common.{Option, Some, option_to_list, length, length-append, sum_by, refl, ap, sym, ◌∙◌}
+use Rattle.std.proofs.Common.{length, length-append, sum_by, refl, ap, sym, ◌∙◌}
 use Rattle.std.proofs.Common.{subst, arith}
 use Rattle.std.proofs.lemmas.Bool.Decides.{nat_tests}
 use Rattle.std.proofs.lemmas.List.Elements.{All-head, All-tail, All-cons}
-use Rattle.std.proofs.lemmas.List.Sums.{sum_by-cons, sum_by_push}
-use mathlib.Core.List.{IsPrefix}
+use Rattle.std.proofs.lemmas.List.Sums.{sum_by-cons}
 use Rattle.std.specs.Prelude.{if◌then◌else◌}
-use Rattle.fl_board.proofs.Answering.{answered_last}
-use Rattle.fl_board.specs.Inside.Asks.{HasMostOf}
-use Rattle.fl_board.specs.Seats.{AreApart, Place}
+use Rattle.fl_record.specs.Seats.{HasMostOf}
+use Rattle.fl_record.specs.Seats.{AreApart, Place}
 use Rattle.fl_board.specs.Shown.{HasAllOf}
-use Rattle.fl_counter.specs.Answered.{Answered, answered, answered_by, step_lines}
+use Rattle.fl_counter.specs.Answered.{Answered, answered_by}
 use Rattle.fl_desk.specs.Legal.{is_asked, orders_asked}
 use Rattle.fl_history.specs.declared.history.Line.{Line}
 use Rattle.fl_history.specs.declared.history.Line.TheVariants as line
-use Rattle.fl_order.specs.declared.order.Order.{Order}
-use Rattle.fl_order.specs.declared.told.Told.{Told}
 
 abbrev one_if : Bool → ℕ
 one_if b = cond b 1 0
@@ -24,10 +20,6 @@ one_if b = cond b 1 0
 -- how many orders of the worker the lines have
 abbrev pub orders_by : ℕ → List Line → ℕ
 orders_by worker lines = length (answered_by worker lines)
-
--- a list has as many items as its beginning at least
-pub no_longer : {X : Type 0} (xs ys : List X) → IsPrefix xs ys → length xs ≤ length ys
-no_longer xs ys p = omega (arith, sym (ap length p.1) ∙ length-append xs p.0)
 
 -- the line asks for this worker
 abbrev is_asked_by : ℕ → Line → Bool
@@ -43,12 +35,6 @@ line_more : (worker : ℕ) (l : Line) (lines : List Line)
     → orders_by worker (l ∷ lines) ≡ one_if (is_asked_by worker l) + orders_by worker lines
 line_more worker (line.Asked asker order) lines = one_longer_if (asker == worker) _ (answered_by worker lines)
 line_more worker (line.Told told) lines = omega arith
-
--- an order of the worker is one more
-pub one_more_by : (worker : ℕ) (lines : List Line) (order : Order) (tolds : List Told)
-    → orders_by worker (lines ++ step_lines worker order tolds) ≡ orders_by worker lines + 1
-one_more_by worker lines order tolds =
-    ap length (answered_last worker lines order tolds) ∙ length-append (answered_by worker lines) (answered order tolds ∷ [])
 
 -- ---- each line is of one worker at most
 
@@ -154,10 +140,3 @@ exactly lines (p ∷ places) most small =
 pub has_all : (lines : List Line) (places : List Place) → AreApart places → All (λ (p : Place). HasMostOf lines p) places
     → orders_asked lines ≡ sum_by (λ (p : Place). p.count) places → All (λ (p : Place). HasAllOf lines p) places
 has_all lines places apart most total = exactly lines places most (omega (arith, no_more_than_all lines places apart, total))
-
--- one less is left behind a list from whose end one was taken, and the others count the rest
-pub one_popped : {X : Type 0} (f : X → ℕ) (xs left : List X) (taken : Option X) (x : X) → xs ≡ left ++ option_to_list taken
-    → taken ≡ Some x → (length xs ≡ length left + 1) × (sum_by f xs ≡ sum_by f left + f x)
-one_popped f xs left taken x items is =
-    let all : xs ≡ left ++ x ∷ [] = items ∙ ap (λ o. left ++ option_to_list o) is in
-    (ap length all ∙ length-append left (x ∷ []), ap (sum_by f) all ∙ sum_by_push f left x)

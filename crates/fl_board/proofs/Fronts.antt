@@ -4,10 +4,10 @@ use Rattle.std.proofs.Common.{Result, Ok, Err, IfOk, OnErr, ap, sym, ◌∙◌, 
 use Rattle.std.proofs.lemmas.Bool.Decides.{nat_tests}
 use Rattle.std.specs.Prelude.{if◌then◌else◌}
 use mathlib.Core.List.{IsPrefix}
-use Rattle.fl_board.proofs.Counts.{no_longer}
-use Rattle.fl_board.proofs.Prefixes.{of_itself}
-use Rattle.fl_board.specs.Seats.{Place, front_of}
-use Rattle.fl_board.specs.Shown.{AreHandedIn, IsHandedIn, IsShown, KeepsHanded}
+use Rattle.fl_board.proofs.Prefixes.{no_longer, of_itself}
+use Rattle.fl_record.specs.Seats.{Place}
+use Rattle.fl_board.specs.Shown.{front_of}
+use Rattle.fl_record.specs.Shown.{AreHandedIn, IsHandedIn, IsShown, KeepsHanded}
 use Rattle.fl_counter.specs.Answered.{AreBehind, answered_by, step_lines}
 use Rattle.fl_desk.specs.Answered.{IsAnsweredAfter}
 use Rattle.fl_history.specs.declared.history.Line.{Line}

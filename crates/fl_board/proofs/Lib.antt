@@ -1,8 +1,5 @@
-mod Answering
-mod Boards
-mod Counts
-mod Histories
-mod Refusing
 mod Batches
-mod Prefixes
+mod Counts
 mod Fronts
+mod Prefixes
+mod Refusing

@@ -1,5 +1,5 @@
 -- Lists that begin with others.
-use Rattle.std.proofs.Common.{◌≡◌, List, [], ◌++◌, All, ap, sym, ◌∙◌, append_assoc}
+use Rattle.std.proofs.Common.{◌≡◌, ◌≤◌, List, [], ◌++◌, All, length, length-append, ap, sym, ◌∙◌, append_assoc, arith}
 use Rattle.std.proofs.lemmas.List.{append-nil}
 use mathlib.Core.List.{IsPrefix}
 
@@ -14,3 +14,7 @@ module _ {X : Type 0} where
   pub all_of_another : {P : Type 0} (front_in : P → List X) (places : List P) (ys zs : List X)
       → All (λ p. IsPrefix (front_in p) ys) places → IsPrefix ys zs → All (λ p. IsPrefix (front_in p) zs) places
   all_of_another front_in places ys zs all q = λ k d short. of_another _ _ _ (all k d short) q
+
+  -- a list has as many items as its beginning at least
+  pub no_longer : (xs ys : List X) → IsPrefix xs ys → length xs ≤ length ys
+  no_longer xs ys p = omega (arith, sym (ap length p.1) ∙ length-append xs p.0)

@@ -1,26 +1,12 @@
 -- Why a board refuses.
-use Rattle.std.proofs.Common.{◌≡◌, ◌≢◌, ℕ, ◌<◌, true, false, List, ◌∷◌, All, length, take, sym, subst, ap, ◌∙◌, arith}
+use Rattle.std.proofs.Common.{◌≡◌, ℕ, ◌<◌, true, false, List, ◌∷◌, length, subst}
 use Rattle.std.proofs.Math.ListN.{get_or}
-use Rattle.std.proofs.lemmas.List.{get_or-take, get_or_default, length-take-le}
 use Rattle.std.proofs.lemmas.List.Elements.{All-head, All-tail}
 use Rattle.fl_board.specs.Refused.{BeginsWith, FallsShort}
-use Rattle.fl_board.specs.Seats.{AreApart, Place}
+use Rattle.fl_record.specs.Seats.{Place}
 use Rattle.fl_desk.specs.Legal.{IsLegal}
 use Rattle.fl_history.specs.declared.history.Line.{Line}
 use Rattle.fl_waiting.specs.declared.rules.Rules.{Rules}
-
--- ---- places of one worker
-
--- if places are apart, none before one of them is of its worker
-pub none_before : (places : List Place) (i : ℕ) (this : Place) → AreApart places → i < length places → this ≡ get_or places i this
-    → All (λ (p : Place). p.worker ≢ this.worker) (take i places)
-none_before places i this apart lt is k d short same =
-    let less : k < i = omega (arith, short, length-take-le i places (omega arith)) in
-    apart k i d less lt
-    (sym (ap (λ (p : Place). p.worker) (get_or-take i places k d less)) ∙ same
-    ∙ ap (λ (p : Place). p.worker) (is ∙ get_or_default places i this d lt))
-
--- ---- histories that fall short
 
 -- a history that doesn't begin with what one worker handed in and was shown falls short of it, and of more workers
 pub short_of_first : (rules : Rules) (lines : List Line) (place : Place) (others : List Place) → IsLegal rules lines

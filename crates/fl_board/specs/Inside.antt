@@ -1,3 +1,2 @@
--- What lies under a board's lock. No contract of a public function cites these definitions.
-pub mod Asks
-pub mod Recorded
+-- What lies under a board's lock. No contract of a public function cites this definition.
+pub mod UnderLock

@@ -1,4 +1,3 @@
 pub mod Refused
-pub mod Seats
 pub mod Shown
 pub mod Inside

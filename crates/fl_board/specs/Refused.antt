@@ -1,9 +1,9 @@
 -- Why a board refuses, if it isn't for memory.
 use Rattle.std.specs.Prelude.{◌⊎◌, All, List}
 use mathlib.Core.List.{IsPrefix}
-use Rattle.fl_board.specs.Seats.{AreApart, Place}
 use Rattle.fl_desk.specs.Legal.{IsLegal}
 use Rattle.fl_history.specs.declared.history.Line.{Line}
+use Rattle.fl_record.specs.Seats.{AreApart, Place}
 use Rattle.fl_waiting.specs.declared.rules.Rules.{Rules}
 
 -- the history begins with all that the worker handed in and was shown, and with what counts as stored for it

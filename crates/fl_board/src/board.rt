@@ -1,28 +1,29 @@
 //! The board: workers with seats hand in orders under one lock, and look without it. One history of all orders is kept.
 
-ghost use Rattle.std.specs.Prelude.{◌≡◌, ◌<◌, ◌≤◌, ◌+◌, ◌↔◌, ◌⊎◌, [], ◌∷◌, true, Err, List, All, IfOk, IfErr};
+ghost use Rattle.std.specs.Prelude.{◌≡◌, ◌<◌, ◌≤◌, ◌+◌, ◌↔◌, ◌⊎◌, [], ◌∷◌, true, Err, All, IfOk, IfErr};
 ghost use Rattle.std.specs.Prelude.{OnOk, OnErr, length, map, sum_by};
 ghost use Rattle.std.specs.List.{range_with_len};
 ghost use mathlib.Core.List.{IsPrefix};
-ghost use Rattle.fl_board.specs.Inside.Recorded.{all_stored};
+ghost use Rattle.fl_record.specs.Seats.{all_stored};
 ghost use Rattle.fl_board.specs.Refused.{CantClose, FallsShort};
-ghost use Rattle.fl_board.specs.Seats.{AreApart};
-ghost use Rattle.fl_board.specs.Shown.{AreHandedIn, HasAllOf, HaveMet, IsHandedIn, IsShown, KeepsHanded};
+ghost use Rattle.fl_record.specs.Seats.{AreApart};
+ghost use Rattle.fl_board.specs.Shown.{HasAllOf, HaveMet};
+ghost use Rattle.fl_record.specs.Shown.{AreHandedIn, IsHandedIn, IsShown, KeepsHanded};
 ghost use Rattle.fl_counter.specs.Tolds.{HasRoom};
 ghost use Rattle.fl_desk.specs.Legal.{IsLegal, LeavesLawful, orders_asked};
 ghost use Rattle.fl_order.specs.Order.{only_reads};
 
-use crate::seat::Seat;
 use crate::shared::Shared;
-use fl_core::{Core, Rules, Tolds};
+use fl_core::{Rules, Tolds};
 use fl_desk::{HandFault, NoView, Outgoing, ToldLists};
 use fl_history::{History, Journal, Lines};
-use fl_log::{Ask, Beginning, FreshLog};
-use fl_order::{Answer, Errno, NoMemory, Order};
-use fl_replica::{BoardName, ReplicaWriter};
-use std::alloc::{AllocError, Global};
+use fl_log::{Ask, FreshLog};
+use fl_order::{Answer, Errno, Order};
+use fl_record::{OpenFault, Seat};
+use fl_replica::BoardName;
+use std::alloc::Global;
 use std::sync::atomic::{AtomicBool, AtomicU64, Ordering};
-use std::sync::ledger::{Blank, Share};
+use std::sync::ledger::Blank;
 use std::sync::{Mutex, Wait};
 use std::time::Duration;
 
@@ -39,15 +40,6 @@ pub struct Board<L: BoardName, R: Wait + Drop + Copy, J: Journal = Lines> {
     workers: usize,
     ghost all: { workers ≡ L.workers },
     ghost some: { (0 < workers) × (workers ≤ 16) },
-}
-
-/// Why no board is there.
-#[derive(Clone, Copy, Debug, PartialEq, Eq)]
-pub enum OpenFault {
-    /// Out of memory.
-    NoMemory,
-    /// A worker got no reader of what is published.
-    NoReader,
 }
 
 /// Why a board is not closed. Board and seats come back.
@@ -68,28 +60,6 @@ pub enum CloseFault<L: BoardName, R: Wait + Drop + Copy, J: Journal = Lines> {
         /// The seats that were handed back.
         seats: Vec<Seat<L>>,
     },
-}
-
-impl From<NoMemory> for OpenFault {
-    ghost use Rattle.std.specs.Prelude.{◌≡◌};
-    ghost use Rattle.fl_board.specs.declared.board.OpenFault.TheVariants as open_fault;
-
-    ghost from_gives = { λ _ fault. fault ≡ open_fault.NoMemory };
-
-    fn from(_e: NoMemory) -> OpenFault {
-        OpenFault::NoMemory
-    }
-}
-
-impl From<AllocError> for OpenFault {
-    ghost use Rattle.std.specs.Prelude.{◌≡◌};
-    ghost use Rattle.fl_board.specs.declared.board.OpenFault.TheVariants as open_fault;
-
-    ghost from_gives = { λ _ fault. fault ≡ open_fault.NoMemory };
-
-    fn from(_e: AllocError) -> OpenFault {
-        OpenFault::NoMemory
-    }
 }
 
 impl<L: BoardName, R: Wait + Drop + Copy, J: Journal + Drop> Drop for Board<L, R, J> {
@@ -133,14 +103,7 @@ impl<L: BoardName, R: Wait + Drop + Copy, J: Journal> Board<L, R, J> {
         let Ok(shared) = Shared::over(alloc, rt, journal, book, log, workers as usize, rules) else {
             return Err(OpenFault::NoMemory);
         };
-        let made = seats_of(
-            alloc,
-            &shared.record.writer,
-            &shared.record.all,
-            rest,
-            workers,
-        );
-        let seats = match made {
+        let seats = match shared.record.seats(alloc, rest, workers) {
             Ok(seats) => seats,
             Err(fault) => return Err(fault),
         };
@@ -319,8 +282,7 @@ impl<L: BoardName, R: Wait + Drop + Copy, J: Journal> Board<L, R, J> {
             };
             return Err(CloseFault::NoView { board, seats });
         }
-        let mut whole = merged(seats);
-        Ok(Box::into_inner(shared).into_journal(&mut whole))
+        Ok(Box::into_inner(shared).into_journal(seats))
     }
 }
 
@@ -388,58 +350,4 @@ fn note_look(looked: &AtomicBool) {
 // Waits a while before lines are stored again.
 fn pause<W: Wait>(rt: &W) {
     AtomicU64::new(0).park_timeout(rt, 0, Duration::from_millis(PAUSE));
-}
-
-// A seat for each worker, with a part of the ledger.
-fn seats_of<L: BoardName, R: Wait + Drop + Copy>(
-    alloc: Global,
-    writer: &ReplicaWriter<L, Core, R>,
-    none: &Beginning<L, Ask>,
-    parts: Share<L>,
-    workers: u32,
-) -> Result<Vec<Seat<L>>, OpenFault>
-    requires none { none.now ≡ [] }
-    requires parts { (parts.parts ≡ workers) × (parts.amount ≡ 0) }
-    ensures workers { IfOk result (λ seats. map (λ seat. seat.worker) seats.items ≡ range_with_len 0 workers) }
-    ensures fresh { IfOk result (λ seats.
-        All (λ seat. (seat.count ≡ 0) × (seat.handed ≡ []) × (seat.seen ≡ []) × (seat.stored ≡ [])) seats.items) }
-{
-    let mut rest = parts;
-    let Ok(mut seats) = Vec::with_capacity(alloc, workers as usize) else {
-        return Err(OpenFault::NoMemory);
-    };
-    for worker in 0..workers {
-        let Ok(reader) = writer.reader() else {
-            return Err(OpenFault::NoReader);
-        };
-        let share = rest.split_off(1, 0);
-        seats.push_reserved(Seat {
-            worker,
-            share,
-            reader,
-            handed: none.again(),
-            seen: none.again(),
-            stored: none.again(),
-        });
-    }
-    Ok(seats)
-}
-
-// The shares of all seats as one.
-fn merged<L: BoardName>(seats: Vec<Seat<L>>) -> Share<L>
-    requires parts { 0 < L.parts }
-    requires some { 0 < length seats.items }
-    ensures parts { (result.parts ≡ length seats.items) × (result.parts ≤ L.parts) }
-    ensures amount { result.amount ≡ sum_by (λ seat. seat.count) seats.items }
-{
-    let mut seats = seats;
-    let Some(last) = seats.pop() else {
-        unreachable!();
-    };
-    let mut all = last.into_share();
-    while let Some(seat) = seats.pop() {
-        let share = seat.into_share();
-        all.merge(share);
-    }
-    all
 }

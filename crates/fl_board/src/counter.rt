@@ -1,16 +1,17 @@
 //! A board is a counter.
 
 ghost use Rattle.std.specs.Prelude.{◌+◌};
-ghost use Rattle.fl_board.specs.Seats.{front_of};
+ghost use Rattle.fl_board.specs.Shown.{front_of};
 ghost use Rattle.fl_counter.specs.Answered.{answered_by};
 ghost use Rattle.fl_desk.specs.Answered.{IsAnsweredAfter};
 
 use crate::board::Board;
-use crate::seat::Seat;
 use fl_core::Tolds;
 use fl_desk::{Counter, HandFault, NoView, Outgoing, ToldLists};
 use fl_history::Journal;
 use fl_order::{Answer, Errno, Order};
+use fl_record::Seat;
+use fl_record::laws::answered_last;
 use fl_replica::BoardName;
 use std::sync::Wait;
 
@@ -40,6 +41,7 @@ impl<L: BoardName, P: Wait + Drop + Copy, J: Journal> Counter for Board<L, P, J>
         tolds: &mut Tolds,
         lists: &mut ToldLists,
     ) -> Result<(), HandFault> {
+        answered_last();
         Board::hand_in_all(self, rt, outgoing, seat, orders, tolds, lists)
     }
 

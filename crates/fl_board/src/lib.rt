@@ -23,16 +23,13 @@
 //! only once it has let the lock go, so that others may take orders in between.
 #![tactic(auto)]
 
-mod asks;
 mod board;
 mod counter;
 mod idle;
-mod record;
-mod seat;
 mod shared;
 
-pub use board::{Board, CloseFault, OpenFault};
+pub use board::{Board, CloseFault};
 pub use fl_desk::{HandFault, NoView};
 pub use fl_log::{Ask, FreshLog, LogName};
+pub use fl_record::{OpenFault, Seat};
 pub use fl_replica::BoardName;
-pub use seat::Seat;

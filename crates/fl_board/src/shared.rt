@@ -1,30 +1,31 @@
 //! What lies under a board's lock.
 
-ghost use Rattle.std.specs.Prelude.{◌≡◌, ◌≢◌, ◌↔◌, ◌≤◌, ◌<◌, ◌^◌, ◌+◌, ◌∷◌, [], true, false, All, length};
+ghost use Rattle.std.specs.Prelude.{◌≡◌, ◌≤◌, ◌<◌, ◌^◌, ◌+◌, ◌∷◌, [], true, false, All, length, sum_by};
 ghost use Rattle.std.specs.Prelude.{IfOk, OnOk, OnErr};
 ghost use mathlib.Core.List.{IsPrefix};
-ghost use Rattle.fl_board.specs.Inside.Asks.{HasMostOf, history_of};
-ghost use Rattle.fl_board.specs.Inside.Recorded.{all_stored};
+ghost use Rattle.fl_record.specs.Asks.{history_of};
+ghost use Rattle.fl_record.specs.Seats.{HasMostOf};
+ghost use Rattle.fl_record.specs.Seats.{all_stored};
 ghost use Rattle.fl_board.specs.Refused.{CantClose, FallsShort};
-ghost use Rattle.fl_board.specs.Seats.{AreApart};
-ghost use Rattle.fl_board.specs.Shown.{AreHandedIn, HaveMet, IsHandedIn, KeepsHanded};
+ghost use Rattle.fl_record.specs.Seats.{AreApart};
+ghost use Rattle.fl_board.specs.Shown.{HaveMet};
+ghost use Rattle.fl_record.specs.Shown.{AreHandedIn, IsHandedIn, KeepsHanded};
 ghost use Rattle.fl_counter.specs.Tolds.{HasRoom};
 ghost use Rattle.fl_desk.specs.Legal.{IsLegal, LeavesLawful, orders_asked};
 
-use crate::asks::asks_lead;
 use crate::idle::Idle;
-use crate::record::Record;
-use crate::seat::Seat;
 use fl_core::{Rules, Tolds};
-use fl_desk::{Desk, HandFault, MOST_IN_BATCH, NoView, ToldLists};
+use fl_desk::{HandFault, NoView, ToldLists};
 use fl_history::Journal;
 use fl_log::{Ask, Beginning, FreshLog};
 use fl_order::{NoMemory, Order};
-use fl_replica::{BoardName, ReplicaWriter};
+use fl_record::laws::asks_lead;
+use fl_record::{Record, Seat, are_apart};
+use fl_replica::BoardName;
 use std::alloc::Global;
 use std::marker::Model;
 use std::sync::Wait;
-use std::sync::ledger::{Book, Share};
+use std::sync::ledger::Book;
 
 /// The record, of which all that was handed in is published. Contracts see the asks that were handed in, and a
 /// beginning of them whose lines the journal has stored.
@@ -38,8 +39,8 @@ pub(crate) struct Shared<L: BoardName, R: Wait + Drop + Copy, J: Journal> {
 impl<L: BoardName, R: Wait + Drop + Copy, J: Journal> Model for Shared<L, R, J> {
     ghost use Rattle.std.specs.Prelude.{◌≡◌, IfSome};
     ghost use mathlib.Core.List.{IsPrefix};
-    ghost use Rattle.fl_board.specs.Inside.Asks.{history_of};
-    ghost use Rattle.fl_board.specs.Inside.Recorded.{UnderLock};
+    ghost use Rattle.fl_record.specs.Asks.{history_of};
+    ghost use Rattle.fl_board.specs.Inside.UnderLock.{UnderLock};
 
     ghost Value = { UnderLock };
 
@@ -81,22 +82,10 @@ impl<L: BoardName, R: Wait + Drop + Copy, J: Journal> Shared<L, R, J> {
         requires rules { rules ≡ L.rules }
         ensures { IfOk result (λ shared. shared ≡ record { asks = []; stored = [] }) }
     {
-        let Ok(desk) = Desk::over(alloc, journal, rules) else {
+        let Ok(record) = Record::over(alloc, rt, journal, ledger, log, readers, rules) else {
             return Err(NoMemory);
         };
-        let (log, all) = log.named::<L>();
-        let made = ReplicaWriter::new(alloc, rt, desk.present(), &all, readers, MOST_IN_BATCH);
-        let Ok(writer) = made else {
-            return Err(NoMemory);
-        };
-        let stored = all.again();
-        let record = Record {
-            desk,
-            book: ledger,
-            log,
-            all,
-            writer,
-        };
+        let stored = record.asks().again();
         Ok(Shared {
             record,
             stored,
@@ -170,12 +159,8 @@ impl<L: BoardName, R: Wait + Drop + Copy, J: Journal> Shared<L, R, J> {
         ensures same { self.new ≡ self.old }
         ensures seat { seat.new ≡ seat.old }
     {
-        if self.record.warm(alloc).is_err() {
-            return;
-        }
-        self.idle.end();
-        if let Ok(reader) = self.record.writer.reader() {
-            seat.reader = reader;
+        if self.record.warm(alloc, seat).is_ok() {
+            self.idle.end();
         }
     }
 
@@ -188,11 +173,12 @@ impl<L: BoardName, R: Wait + Drop + Copy, J: Journal> Shared<L, R, J> {
         ensures no_view { OnErr result (FallsShort L.rules (one.old ∷ other.old ∷ [])) }
     {
         asks_lead();
-        if !one.begins(&self.record.all) || !other.begins(&self.record.all) {
+        let all = self.record.asks();
+        if !one.begins(all) || !other.begins(all) {
             return Err(NoView);
         }
-        one.seen = self.record.all.again();
-        other.seen = self.record.all.again();
+        one.show(all);
+        other.show(all);
         Ok(())
     }
 
@@ -209,8 +195,9 @@ impl<L: BoardName, R: Wait + Drop + Copy, J: Journal> Shared<L, R, J> {
         if !are_apart(seats) {
             return false;
         }
+        let all = self.record.asks();
         for seat in seats {
-            if !seat.begins(&self.record.all) || !seat.is_stored_in(&self.stored) {
+            if !seat.begins(all) || !seat.is_stored_in(&self.stored) {
                 return false;
             }
         }
@@ -240,64 +227,30 @@ impl<L: BoardName, R: Wait + Drop + Copy, J: Journal> Shared<L, R, J> {
     fn store_waiting(&mut self) -> bool
         ensures { self.new.asks ≡ self.old.asks }
     {
-        if self.stored.is(&self.record.all) {
+        if self.stored.is(self.record.asks()) {
             return true;
         }
         if !self.record.store_if_due() {
             return false;
         }
-        self.stored = self.record.all.again();
+        self.stored = self.record.asks().again();
         true
     }
 
-    /// The desk's journal, for the whole of the ledger.
-    pub(crate) fn into_journal(self, whole: &mut Share<L>) -> J
-        requires { whole.old.parts ≡ L.parts }
+    /// The desk's journal, for all its seats.
+    pub(crate) fn into_journal(self, seats: Vec<Seat<L>>) -> J
+        requires all { (0 < L.parts) × (L.parts ≤ length seats.items) }
         ensures lines { J.lines result ≡ history_of L.rules self.asks }
         ensures stored { IsPrefix (history_of L.rules self.stored) (J.stored result) }
         ensures legal { IsLegal L.rules (J.lines result) }
         ensures lawful { LeavesLawful L.rules (J.lines result) }
-        ensures counted { orders_asked (J.lines result) ≡ whole.old.amount }
+        ensures counted { orders_asked (J.lines result) ≡ sum_by (λ seat. seat.count) seats.items }
     {
         let Shared {
             record,
             stored: _stored,
             idle: _idle,
         } = self;
-        let Record {
-            desk,
-            mut book,
-            log: _log,
-            all: _all,
-            writer: _writer,
-        } = record;
-        asks_lead();
-        book.audit(whole);
-        desk.into_journal()
+        record.into_journal(seats)
     }
-}
-
-// Whether no two seats are of one worker.
-fn are_apart<L: BoardName>(seats: &[Seat<L>]) -> bool
-    ensures { (result ≡ true) ↔ AreApart seats.now }
-{
-    for i in 0..seats.len() {
-        let seat = &seats[i];
-        if has_worker(&seats[..i], seat.worker) {
-            return false;
-        }
-    }
-    true
-}
-
-// Whether one of the seats is this worker's.
-fn has_worker<L: BoardName>(seats: &[Seat<L>], worker: u32) -> bool
-    ensures { (result ≡ false) ↔ All (λ seat. seat.worker ≢ worker) seats.now }
-{
-    for seat in seats {
-        if seat.worker == worker {
-            return true;
-        }
-    }
-    false
 }

@@ -7,7 +7,8 @@ use Rattle.std.proofs.lemmas.List.Elements.{All-cons, All-head, All-nil, All-tai
 use Rattle.std.proofs.lemmas.List.Sums.{sum_by-append, sum_by-cons}
 use mathlib.Core.List.{IsPrefix}
 use mathlib.Core.List.Sublistᴰ as sublist
-use Rattle.fl_board.specs.Seats.{Place, front_of}
+use Rattle.fl_record.specs.Seats.{Place}
+use Rattle.fl_board.specs.Shown.{front_of}
 use Rattle.fl_board.specs.Shown.{HasAllOf}
 use Rattle.fl_counter.specs.Answered.{Answered, answered, answered_by, step_lines}
 use Rattle.fl_desk.specs.Answered.{IsAnsweredAfter}

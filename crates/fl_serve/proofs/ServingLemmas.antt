@@ -8,7 +8,7 @@ use Rattle.std.specs.List.{range_with_len}
 use Rattle.std.specs.Prelude.{IfSome, IsSome, not, ◌&&◌, ◌||◌}
 use Rattle.std.specs.Io.KnownBytes.{Keeps}
 use mathlib.Core.List.{IsPrefix}
-use Rattle.fl_board.specs.Seats.{Place}
+use Rattle.fl_record.specs.Seats.{Place}
 use Rattle.fl_board.specs.Shown.{HasAllOf}
 use Rattle.fl_counter.specs.Asked.{Orders}
 use Rattle.fl_desk.specs.Legal.{IsLegal}

@@ -1,7 +1,7 @@
 -- The result of a session once its board is closed.
 use Rattle.std.specs.Prelude.{◌≡◌, Bool, List, All, Option, sum_by}
 use mathlib.Core.List.{IsPrefix}
-use Rattle.fl_board.specs.Seats.{Place}
+use Rattle.fl_record.specs.Seats.{Place}
 use Rattle.fl_board.specs.Shown.{HasAllOf}
 use Rattle.fl_desk.specs.Legal.{orders_asked}
 use Rattle.fl_history.specs.declared.history.Line.{Line}

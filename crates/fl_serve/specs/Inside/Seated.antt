@@ -1,5 +1,6 @@
 -- What a board says of its seats.
-use Rattle.fl_board.specs.Seats.{Place, front_of}
+use Rattle.fl_record.specs.Seats.{Place}
+use Rattle.fl_board.specs.Shown.{front_of}
 use Rattle.fl_counter.specs.Answered.{answered_by}
 use Rattle.fl_pool.specs.Working.{Reading, reading}
 

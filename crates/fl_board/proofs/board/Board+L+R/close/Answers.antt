@@ -1,6 +1,6 @@
 use Rattle.std.proofs.Common.{List, All, subst, sym}
 use mathlib.Core.List.{IsPrefix}
-use Rattle.fl_board.specs.Seats.{Place}
+use Rattle.fl_record.specs.Seats.{Place}
 use Rattle.fl_board.specs.Shown.{HasAllOf}
 use Rattle.fl_desk.specs.Legal.{LeavesLawful}
 use Rattle.fl_history.specs.declared.history.Line.{Line}

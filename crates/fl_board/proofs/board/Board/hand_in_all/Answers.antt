@@ -1,7 +1,7 @@
 use Rattle.std.proofs.Common.{rules, ◌≡◌, ℕ, nat_eq, ◌<◌, ◌∙◌, Bool, true, false, length, sym, subst}
 use Rattle.fl_board.proofs.Batches.{all_stored_in}
-use Rattle.fl_board.specs.Inside.Recorded.{all_stored}
-use Rattle.fl_board.specs.Shown.{AreHandedIn}
+use Rattle.fl_record.specs.Seats.{all_stored}
+use Rattle.fl_record.specs.Shown.{AreHandedIn}
 use Rattle.fl_board.proofs.board.Board.hand_in_all.Goals.{then-count-eq0, else-count-eq0}
 use Rattle.fl_board.proofs.board.Board.hand_in_all.Goals as goal
 

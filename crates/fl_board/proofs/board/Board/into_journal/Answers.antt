@@ -1,9 +1,10 @@
 use Rattle.std.proofs.Common.{◌≡◌, ◌∙◌, ap, sym, subst, All, refl, inr, sum_by, List}
 use mathlib.Core.List.{IsPrefix}
-use Rattle.fl_board.specs.Inside.Asks.{HasMostOf, history_of}
-use Rattle.fl_board.specs.Inside.Recorded.{UnderLock}
+use Rattle.fl_record.specs.Asks.{history_of}
+use Rattle.fl_record.specs.Seats.{HasMostOf}
+use Rattle.fl_board.specs.Inside.UnderLock.{UnderLock}
 use Rattle.fl_board.specs.Refused.{CantClose}
-use Rattle.fl_board.specs.Seats.{AreApart, Place}
+use Rattle.fl_record.specs.Seats.{AreApart, Place}
 use Rattle.fl_board.proofs.Counts.{has_all}
 use Rattle.fl_board.proofs.Prefixes.{all_of_another}
 use Rattle.fl_desk.specs.Legal.{orders_asked}
@@ -28,7 +29,7 @@ returns-clause-each g c =
     let history = c.into_journal.ensures in
     let lines : history_of ours c.deref.result.now.asks ≡ kept =
     ap (λ (s : UnderLock). history_of ours s.asks) (c.deref.ensures ∙ sym c.into_inner.ensures) ∙ sym history.lines in
-    let total : orders_asked kept ≡ sum_by (λ (p : Place). p.count) seats = history.counted ∙ c.merged-whole.ensures.amount in
+    let total : orders_asked kept ≡ sum_by (λ (p : Place). p.count) seats = history.counted in
     has_all kept seats (returns-clause-apart g c) (subst (λ (l : List Line). All (λ (p : Place). HasMostOf l p) seats) lines most) total
 
 pub returns-clause-stored : goal.returns-clause-stored

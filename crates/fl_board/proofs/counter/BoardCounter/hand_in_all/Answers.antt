@@ -1,7 +1,7 @@
 use Rattle.std.proofs.Common.{ap}
 use Rattle.fl_board.proofs.Batches.{handed_in_answered, handed_same, none_handed}
 use Rattle.fl_board.proofs.Fronts.{handed_in_behind}
-use Rattle.fl_board.specs.Seats.{Place}
+use Rattle.fl_record.specs.Seats.{Place}
 use Rattle.fl_counter.specs.Answered.{answered_by}
 use Rattle.fl_board.proofs.counter.BoardCounter.hand_in_all.Goals as goal
 
@@ -12,7 +12,7 @@ pub returns-clause-count : goal.returns-clause-count
 returns-clause-count g c = (handed_same g.L.BoardName.rules _ _ _ _ c.hand_in_all.ensures.handed).1
 
 pub returns-clause-taken : goal.returns-clause-taken
-returns-clause-taken g c = handed_in_answered g.L.BoardName.rules _ _ _ _ c.hand_in_all.ensures.handed
+returns-clause-taken g c = handed_in_answered c.answered_last.ensures g.L.BoardName.rules _ _ _ _ c.hand_in_all.ensures.handed
 
 pub returns-clause-behind : goal.returns-clause-behind
 returns-clause-behind g c = handed_in_behind g.L.BoardName.rules _ _ _ _ c.hand_in_all.ensures.handed

@@ -4,8 +4,9 @@ use Rattle.std.proofs.lemmas.List.{take_more, take_all}
 use Rattle.std.proofs.lemmas.List.Elements.{All-push}
 use mathlib.Core.List.{IsPrefix}
 use Rattle.fl_board.proofs.Refusing.{short_at}
-use Rattle.fl_board.specs.Inside.Asks.{HasMostOf, history_of}
-use Rattle.fl_board.specs.Seats.{Place}
+use Rattle.fl_record.specs.Asks.{history_of}
+use Rattle.fl_record.specs.Seats.{HasMostOf}
+use Rattle.fl_record.specs.Seats.{Place}
 use Rattle.fl_board.proofs.shared.Shared.can_close.Goals.{then-not-begins-via-then-not-begins, then-not-begins-via-else-not-begins+then-not-is_stored_in}
 use Rattle.fl_board.proofs.shared.Shared.can_close.Goals as goal
 
@@ -48,7 +49,7 @@ returns-then-not-begins-clause-cant g c = λ f.
     let is : get_or seats i seat ≡ seat = sym c.seat-item.is in
     let legal = c.asks_lead.ensures.legal ours in
     inl (elim c.then-not-begins.branch [
-      | then-not-begins-via-then-not-begins w ↦ short_at ours _ seats i seat (legal _) lt is w.if-not-begins.ensures.short
+      | then-not-begins-via-then-not-begins w ↦ short_at ours _ seats i seat (legal _) lt is (λ begins. w.if-not-begins.ensures.all begins.had begins.saw)
       | then-not-begins-via-else-not-begins+then-not-is_stored_in w ↦
           short_at ours _ seats i seat (legal _) lt is (λ begins. w.if-not-is_stored_in.ensures.1 begins.stored)
     ])

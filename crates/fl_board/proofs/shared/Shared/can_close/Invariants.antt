@@ -1,6 +1,7 @@
 use Rattle.std.proofs.Common.{All, take}
 use mathlib.Core.List.{IsPrefix}
-use Rattle.fl_board.specs.Inside.Asks.{HasMostOf, history_of}
+use Rattle.fl_record.specs.Asks.{history_of}
+use Rattle.fl_record.specs.Seats.{HasMostOf}
 use Rattle.fl_board.proofs.shared.Shared.can_close.Given as goal
 
 abbrev pub invariant-loop-seat : goal.invariant-loop-seat

@@ -1,0 +1,6 @@
+mod Answering
+mod Batches
+mod Counts
+mod Histories
+mod Prefixes
+mod Seating

@@ -1,0 +1,4 @@
+pub mod Asks
+pub mod Recorded
+pub mod Seats
+pub mod Shown
