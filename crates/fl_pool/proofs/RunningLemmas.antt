@@ -10,7 +10,7 @@ use Rattle.fl_counter.specs.Asked.{Orders}
 use Rattle.fl_intake.specs.Ends.{PutSide, TakeSide, weight_taken}
 use Rattle.fl_intake.specs.Often.{Weight}
 use Rattle.fl_pool.proofs.WorkingLemmas.{Sent, all_pushed, none_back, one_back, or_false}
-use Rattle.fl_pool.specs.Running.{HasAdded, HasAddedIf, HasRun, HaveWorked, IsInline}
+use Rattle.fl_pool.specs.Running.{HasAdded, HasAddedIf, HasRun, HaveWorked, IsInline, IsReady}
 use Rattle.fl_pool.specs.Working.{HasComeBack, IsDone, IsFresh, IsIdle, Reading, Work, idle, standing_at}
 use Rattle.fl_pool.specs.declared.crew.Back.{Back}
 use Rattle.fl_pool.specs.declared.crew.Worker.{Worker}
@@ -161,28 +161,27 @@ named r workers = map (λ worker. r.worker worker.post.seat) workers
 
 -- what became of the orders of a receiver, and of the worker in its thread
 pub received_at : {C N S : Type 0} (r : Reading S) (shows : Shows) (of : TableId) (first : Option (Worker C N S)) (began ended : Option Inline)
-    (put said : Orders) (old new : Back C N S) → IsInline r first began
+    (put said : Orders) (old new : Back C N S) (most : ℕ) → IsInline r first began
     → AreDispatched shows began put ended said → IfSome ended (λ worker. worker.waiting ≡ [])
-    → IfSome first (λ worker. IsIdle r worker.post.seat worker.post.own) → IfSome first (λ worker. IsFresh of worker.end)
-    → IsUntouched old → HasAddedIf r old ended new
+    → IfSome first (IsReady r most of) → IsUntouched old → HasAddedIf r old ended new
     → 1 < vec_capacity old.appenders
     → (inline : Orders) × ((weight : Weight) → sum_by weight said ≡ sum_by weight put + sum_by weight inline)
     × HaveWorked r shows of (named r (option_to_list first)) inline new
-received_at r shows of None None None put said old new is all none nothing fresh untouched added room = (
+received_at r shows of None None None put said old new most is all none ready untouched added room = (
   all.got,
   λ weight. merged_weighs weight put all.got said all.merged,
   subst (λ l. HaveWorked r shows of [] l new) (sym all.there)
       (subst (HaveWorked r shows of [] []) (sym added) (none_joined r shows of old untouched (omega (arith, room)))),
 )
-received_at r shows of None None (Some ended) put said old new is all none nothing fresh untouched added room = absurd all.there
-received_at r shows of None (Some began) ended put said old new is all none nothing fresh untouched added room = absurd is
-received_at r shows of (Some worker) None ended put said old new is all none nothing fresh untouched added room = absurd is
-received_at r shows of (Some worker) (Some began) None put said old new is all none nothing fresh untouched added room =
+received_at r shows of None None (Some ended) put said old new most is all none ready untouched added room = absurd all.there
+received_at r shows of None (Some began) ended put said old new most is all none ready untouched added room = absurd is
+received_at r shows of (Some worker) None ended put said old new most is all none ready untouched added room = absurd is
+received_at r shows of (Some worker) (Some began) None put said old new most is all none ready untouched added room =
     absurd all.there
-received_at r shows of (Some worker) (Some began) (Some ended) put said old new is all none nothing fresh untouched added room = (
+received_at r shows of (Some worker) (Some began) (Some ended) put said old new most is all none ready untouched added room = (
   all.got,
   λ weight. merged_weighs weight put all.got said all.merged,
-  inline_joined r shows of worker began ended old new all.got nothing fresh is all.there none untouched added
+  inline_joined r shows of worker began ended old new all.got ready.idle ready.end is all.there none untouched added
       room,
 )
 

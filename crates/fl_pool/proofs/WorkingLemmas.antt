@@ -4,8 +4,8 @@ use Rattle.std.proofs.Common.{length, map, sum_by, refl, sym, ap, ◌∙◌, sub
 use Rattle.std.proofs.Common.{append-nil, length-append}
 use Rattle.std.specs.Prelude.{◌||◌}
 use Rattle.std.proofs.lemmas.List.{map-append, nil_from_length}
-use Rattle.std.proofs.lemmas.List.Elements.{All-cons, All-head, All-nil, All-push, All-tail}
-use Rattle.std.proofs.lemmas.List.Sums.{sum_by-append, sum_by_push}
+use Rattle.std.proofs.lemmas.List.Elements.{All-head, All-nil, All-push, All-tail}
+use Rattle.std.proofs.lemmas.List.Sums.{sum_by_push}
 use Rattle.fl_intake.specs.Ends.{TakeSide, weight_taken}
 use Rattle.fl_intake.specs.Often.{Weight}
 use Rattle.fl_log.specs.Appended.{Appended}

@@ -6,7 +6,7 @@ use Rattle.fl_counter.specs.Asked.{Orders}
 use Rattle.fl_intake.specs.Ends.{PutSide, TakeSide, weight_taken}
 use Rattle.fl_intake.specs.Often.{Weight}
 use Rattle.fl_log.specs.Appended.{Appended}
-use Rattle.fl_pool.specs.Working.{HaveDone, Reading, standing_at}
+use Rattle.fl_pool.specs.Working.{HaveDone, IsFresh, IsIdle, Reading, standing_at}
 use Rattle.fl_pool.specs.declared.crew.Back.{Back}
 use Rattle.fl_pool.specs.declared.crew.Worker.{Worker}
 use Rattle.fl_pool.specs.declared.pool.Ran.{Ran}
@@ -14,6 +14,7 @@ use Rattle.fl_transport.specs.Inbox.{Inflow, IsUnread}
 use Rattle.fl_transport.specs.declared.fault.Fault.TheVariants.{NoMemory}
 use Rattle.fl_workers.specs.Dispatched.{Inline}
 use Rattle.fl_workers.specs.Received.{HasReceived, Reception}
+use Rattle.fl_workers.specs.Room.{HasBatchFor}
 use Rattle.fl_workers.specs.Worked.{Shows}
 use Rattle.fl_workers.specs.declared.entry.ReplyEntry.{ReplyEntry}
 use Rattle.fl_workers.specs.declared.receiver.Received.{Received}
@@ -22,6 +23,13 @@ use Rattle.fl_workers.specs.declared.receiver.Received.{Received}
 pub record CanRun (of : TableId) (inbox : Inflow) (put : PutSide) : Type 0 where
   pub unread : IsUnread inbox
   pub unused : (put.of ≡ of) × (put.closed ≡ false) × (put.put ≡ [])
+
+-- A worker can begin: nothing was done at its seat, its end is this intake's and took nothing, and it has room for a
+-- batch in which an order has at most so many replies.
+pub record IsReady {C N S : Type 0} (r : Reading S) (most : ℕ) (of : TableId) (worker : Worker C N S) : Type 0 where
+  pub idle : IsIdle r worker.post.seat worker.post.own
+  pub end : IsFresh of worker.end
+  pub room : HasBatchFor most worker.room
 
 -- how a receiver went, by what was left of its reader and is left now, what it had given to be sent, the orders that it
 -- dispatched, and how it ended

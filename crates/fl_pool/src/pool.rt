@@ -3,9 +3,8 @@
 ghost use Rattle.std.specs.Prelude.{◌≡◌, ◌≤◌, ◌<◌, ◌+◌, ◌++◌, ℕ, [], All, IfSome, List, MatchOption, false, true};
 ghost use Rattle.std.specs.Prelude.{length, map, option_to_list, vec_capacity};
 ghost use Rattle.std.specs.Io.KnownBytes.{Keeps};
-ghost use Rattle.fl_pool.specs.Running.{CanRun, HasRun, HaveWorked, IsInline};
-ghost use Rattle.fl_pool.specs.Working.{HasComeBack, IsFresh, IsIdle, reading};
-ghost use Rattle.fl_workers.specs.Room.{HasBatchFor};
+ghost use Rattle.fl_pool.specs.Running.{CanRun, HasRun, HaveWorked, IsInline, IsReady};
+ghost use Rattle.fl_pool.specs.Working.{HasComeBack, IsFresh, reading};
 ghost use Rattle.fl_counter.specs.Asked.{Orders};
 
 use crate::crew::{Back, Crew, Worker};
@@ -14,8 +13,8 @@ use fl_intake::{Intake, PutEnd, TakeEnd};
 use fl_log::Appender;
 use fl_transport::Inbox;
 use fl_workers::{
-    BatchRoom, Counter, Dispatcher, Failures, Gate, InlineWorker, Post, Received, ReplyEntry,
-    SharedSender, WriterName, receive_all, worker_loop,
+    Counter, Dispatcher, Failures, Gate, InlineWorker, Post, Received, ReplyEntry, SharedSender,
+    WriterName, receive_all, worker_loop,
 };
 use std::io::{Read, Write};
 use std::marker::PhantomData;
@@ -99,10 +98,8 @@ where
         own: Appender<N, ReplyEntry>,
     ) -> Option<Ran<C, N>>
         requires can { CanRun self.now.intake inbox put }
-        requires idle { All (λ worker. IsIdle (reading C.worker C.count C.answered C.front C.stored)
-            worker.post.seat worker.post.own) crew.workers.items }
-        requires ends { All (λ worker. IsFresh self.now.intake worker.end) crew.workers.items }
-        requires rooms { All (λ worker. HasBatchFor C.most_tolds worker.room) crew.workers.items }
+        requires ready { All (IsReady (reading C.worker C.count C.answered C.front C.stored)
+            C.most_tolds self.now.intake) crew.workers.items }
         requires some { 0 < length crew.workers.items }
         ensures { MatchOption result (Keeps (I.remaining r.old) (I.remaining r.new))
             (HasRun (reading C.worker C.count C.answered C.front C.stored) C.shows self.now.intake put
@@ -115,10 +112,8 @@ where
             rt,
             move |scope| -> (Option<Ran<C, N>>, &mut I)
                 requires can { CanRun self.now.intake inbox put }
-                requires idle { All (λ worker. IsIdle (reading C.worker C.count C.answered C.front C.stored)
-                    worker.post.seat worker.post.own) crew.workers.items }
-                requires ends { All (λ worker. IsFresh self.now.intake worker.end) crew.workers.items }
-                requires rooms { All (λ worker. HasBatchFor C.most_tolds worker.room) crew.workers.items }
+                requires ready { All (IsReady (reading C.worker C.count C.answered C.front C.stored)
+                    C.most_tolds self.now.intake) crew.workers.items }
                 requires some { 0 < length crew.workers.items }
                 ensures same { result.1.ghost_name ≡ r.entry.ghost_name }
                 ensures ran { MatchOption result.0 (Keeps (I.remaining r.entry.now) (I.remaining result.1.now))
@@ -149,10 +144,8 @@ where
         'a: 's,
         'w: 's,
         requires can { CanRun self.now.intake inbox put }
-        requires idle { All (λ worker. IsIdle (reading C.worker C.count C.answered C.front C.stored)
-            worker.post.seat worker.post.own) crew.workers.items }
-        requires ends { All (λ worker. IsFresh self.now.intake worker.end) crew.workers.items }
-        requires rooms { All (λ worker. HasBatchFor C.most_tolds worker.room) crew.workers.items }
+        requires ready { All (IsReady (reading C.worker C.count C.answered C.front C.stored)
+            C.most_tolds self.now.intake) crew.workers.items }
         requires some { 0 < length crew.workers.items }
         ensures { MatchOption result (Keeps (I.remaining r.old) (I.remaining r.new))
             (HasRun (reading C.worker C.count C.answered C.front C.stored) C.shows self.now.intake put
@@ -199,10 +192,8 @@ where
     where
         'a: 's,
         'w: 's,
-        requires idle { All (λ worker. IsIdle (reading C.worker C.count C.answered C.front C.stored)
-            worker.post.seat worker.post.own) workers.items }
-        requires ends { All (λ worker. IsFresh self.now.intake worker.end) workers.items }
-        requires rooms { All (λ worker. HasBatchFor C.most_tolds worker.room) workers.items }
+        requires ready { All (IsReady (reading C.worker C.count C.answered C.front C.stored)
+            C.most_tolds self.now.intake) workers.items }
         requires none { threads.old.items ≡ [] }
         requires room { length workers.items ≤ vec_capacity threads.old }
         ensures whose { result ≡ true
@@ -210,8 +201,7 @@ where
         ensures ends { All (λ t. IsFresh self.now.intake t.promise.end.value) threads.new.items }
     {
         for worker in workers {
-            let Worker { post, end, room } = worker;
-            let Some(thread) = self.start(scope, post, end, room) else {
+            let Some(thread) = self.start(scope, worker) else {
                 return false;
             };
             threads.push_reserved(thread);
@@ -220,25 +210,18 @@ where
     }
 
     // Starts a worker, if a thread can be made.
-    fn start<'s, E>(
-        &'s self,
-        scope: &Scope<'s, E>,
-        post: Post<C::Seat, N>,
-        end: TakeEnd,
-        room: BatchRoom,
-    ) -> Option<Thread<C, N>>
+    fn start<'s, E>(&'s self, scope: &Scope<'s, E>, worker: Worker<C, N>) -> Option<Thread<C, N>>
     where
         'a: 's,
         'w: 's,
-        requires idle { IsIdle (reading C.worker C.count C.answered C.front C.stored) post.seat post.own }
-        requires end { end.of ≡ self.now.intake }
-        requires room { HasBatchFor C.most_tolds room }
-        ensures whose { IfSome result (λ t. t.promise.worker ≡ C.worker post.seat) }
-        ensures end { IfSome result (λ t. t.promise.end.value ≡ end) }
+        requires ready { IsReady (reading C.worker C.count C.answered C.front C.stored)
+            C.most_tolds self.now.intake worker }
+        ensures whose { IfSome result (λ t. t.promise.worker ≡ C.worker worker.post.seat) }
+        ensures end { IfSome result (λ t. t.promise.end.value ≡ worker.end) }
     {
         let at = AtSeat {
-            worker: post.own.author(),
-            end: Snapshot::of(&end),
+            worker: worker.post.own.author(),
+            end: Snapshot::of(&worker.end),
             of: PhantomData,
         };
         let stack = Stack::new().stack_size(self.stack);
@@ -247,28 +230,29 @@ where
                 scope,
                 at,
                 move || -> Worked<C, N>
-                    requires idle { IsIdle (reading C.worker C.count C.answered C.front C.stored) post.seat post.own }
-                    requires end { end.of ≡ self.now.intake }
-                    requires room { HasBatchFor C.most_tolds room }
+                    requires { IsReady (reading C.worker C.count C.answered C.front C.stored)
+                        C.most_tolds self.now.intake worker }
                     ensures { HasComeBack (reading C.worker C.count C.answered C.front C.stored) C.shows
-                        (C.worker post.seat) end result.0.seat result.0.own result.1
+                        (C.worker worker.post.seat) worker.end result.0.seat result.0.own result.1
                         result.2.refused result.2.lost }
-                { self.work(post, end, room) },
+                { self.work(worker) },
             )
             .ok()
     }
 
     // What a worker does in a thread of its own.
-    fn work(&self, post: Post<C::Seat, N>, end: TakeEnd, room: BatchRoom) -> Worked<C, N>
-        requires idle { IsIdle (reading C.worker C.count C.answered C.front C.stored) post.seat post.own }
-        requires end { end.of ≡ self.now.intake }
-        requires room { HasBatchFor C.most_tolds room }
+    fn work(&self, worker: Worker<C, N>) -> Worked<C, N>
+        requires { IsReady (reading C.worker C.count C.answered C.front C.stored)
+            C.most_tolds self.now.intake worker }
         ensures { HasComeBack (reading C.worker C.count C.answered C.front C.stored) C.shows
-            (C.worker post.seat) end result.0.seat result.0.own result.1
+            (C.worker worker.post.seat) worker.end result.0.seat result.0.own result.1
             result.2.refused result.2.lost }
     {
-        let mut post = post;
-        let mut end = end;
+        let Worker {
+            mut post,
+            mut end,
+            room,
+        } = worker;
         let failures = worker_loop(
             self.rt,
             &self.counter,
@@ -299,10 +283,8 @@ where
         back: Back<C, N>,
     ) -> Ran<C, N>
         requires can { CanRun self.now.intake inbox put }
-        requires idle { IfSome first (λ worker. IsIdle (reading C.worker C.count C.answered C.front C.stored)
-            worker.post.seat worker.post.own) }
-        requires end { IfSome first (λ worker. IsFresh self.now.intake worker.end) }
-        requires batch { IfSome first (λ worker. HasBatchFor C.most_tolds worker.room) }
+        requires ready { IfSome first (IsReady (reading C.worker C.count C.answered C.front C.stored)
+            C.most_tolds self.now.intake) }
         requires none { (back.seats.items ≡ []) × (back.appenders.items ≡ []) × (back.ends.items ≡ [])
             × (back.failures.refused ≡ false) × (back.failures.lost ≡ false) }
         requires room { (0 < vec_capacity back.seats) × (1 < vec_capacity back.appenders)
@@ -334,7 +316,8 @@ where
 
     // The same worker in the thread of the reader.
     fn inline_of(&self, worker: Option<Worker<C, N>>) -> Option<InlineWorker<C, N>>
-        requires { IfSome worker (λ worker. HasBatchFor C.most_tolds worker.room) }
+        requires { IfSome worker (IsReady (reading C.worker C.count C.answered C.front C.stored)
+            C.most_tolds self.now.intake) }
         ensures { IsInline (reading C.worker C.count C.answered C.front C.stored) worker result }
     {
         let Worker { post, end, room } = worker?;

@@ -1,7 +1,7 @@
 -- What each worker gets.
 use Rattle.std.proofs.Common.{◌≡◌, ℕ, ◌+◌, List, [], ◌∷◌, ◌++◌, All, length, map, refl, sym, ap, ◌∙◌, subst, append_assoc}
 use Rattle.std.proofs.lemmas.List.{length-map, map-append}
-use Rattle.std.proofs.lemmas.List.Elements.{All-head, All-push, All-tail}
+use Rattle.std.proofs.lemmas.List.Elements.{All-head, All-nil, All-push, All-tail}
 use Rattle.std.proofs.lemmas.List.FromFn.{length-range_with_len}
 use Rattle.std.specs.List.{range_with_len}
 use mathlib.Core.List.{head-eq_of_cons-eq, tail-eq_of_cons-eq}
@@ -66,3 +66,7 @@ all_pushed P xs ys x is all this = subst (All P) (sym is) (All-push P xs x all t
 -- the first and the others of a list of which all are so
 pub first_and_rest : {X : Type 0} (P : X → Type 0) (xs rest : List X) (x : X) → xs ≡ x ∷ rest → All P xs → P x × All P rest
 first_and_rest P xs rest x is all = let both = subst (All P) is all in (All-head P x rest both, All-tail P x rest both)
+
+-- all of no values are so
+pub all_of_none : {X : Type 0} (P : X → Type 0) (xs : List X) → xs ≡ [] → All P xs
+all_of_none P xs none = subst (All P) (sym none) (All-nil P)

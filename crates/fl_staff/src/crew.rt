@@ -3,7 +3,8 @@
 ghost use Rattle.std.specs.Prelude.{◌≡◌, ◌≤◌, ◌<◌, ◌+◌, ◌||◌, ℕ, Bool, [], All, length, map, sum_by, vec_capacity};
 ghost use Rattle.std.specs.List.{range_with_len};
 ghost use Rattle.fl_intake.specs.Often.{Weight};
-ghost use Rattle.fl_pool.specs.Working.{HaveDone, IsFresh, IsIdle, reading};
+ghost use Rattle.fl_pool.specs.Running.{IsReady};
+ghost use Rattle.fl_pool.specs.Working.{HaveDone, IsFresh, reading};
 ghost use Rattle.fl_staff.specs.Served.{IsUnused};
 ghost use Rattle.fl_workers.specs.Room.{HasBatchFor, HasRoomFor};
 
@@ -45,10 +46,8 @@ where
         × (length seats.items < vec_capacity crew.back.appenders)
         × (length seats.items ≤ vec_capacity crew.back.ends) }
     ensures seats { map (λ worker. worker.post.seat) result.workers.items ≡ seats.items }
-    ensures idle { All (λ worker. IsIdle (reading C.worker C.count C.answered C.front C.stored)
-        worker.post.seat worker.post.own) result.workers.items }
-    ensures fresh { All (λ worker. IsFresh _intake.now worker.end) result.workers.items }
-    ensures batches { All (λ worker. HasBatchFor C.most_tolds worker.room) result.workers.items }
+    ensures ready { All (IsReady (reading C.worker C.count C.answered C.front C.stored)
+        C.most_tolds _intake.now) result.workers.items }
     ensures rest { (rest.new.parts + length seats.items ≡ rest.old.parts) × (rest.new.amount ≡ 0) }
 {
     let Crew {

@@ -3,10 +3,10 @@
 ghost use Rattle.std.specs.Prelude.{◌≡◌, ◌≤◌, ◌<◌, ◌+◌, All, IfErr, IfOk, map};
 ghost use Rattle.std.specs.List.{range_with_len};
 ghost use Rattle.fl_log.specs.Appended.{unused};
-ghost use Rattle.fl_pool.specs.Running.{CanRun};
-ghost use Rattle.fl_pool.specs.Working.{IsFresh, IsIdle, reading};
+ghost use Rattle.fl_pool.specs.Running.{CanRun, IsReady};
+ghost use Rattle.fl_pool.specs.Working.{reading};
 ghost use Rattle.fl_staff.specs.Served.{HasNotServed, HasServed, IsUnused};
-ghost use Rattle.fl_workers.specs.Room.{HasBatchFor, HasRoomFor};
+ghost use Rattle.fl_workers.specs.Room.{HasRoomFor};
 
 use crate::crew::manned;
 use crate::finishing::{finish, unstarted};
@@ -123,10 +123,8 @@ where
     requires parts { (put.takers + 1 ≡ N.parts) × (0 < put.takers) }
     requires workers { map (λ worker. C.worker worker.post.seat) crew.workers.items ≡ range_with_len 0 put.takers }
     requires can { CanRun pool.intake inbox put }
-    requires idle { All (λ worker. IsIdle (reading C.worker C.count C.answered C.front C.stored)
-        worker.post.seat worker.post.own) crew.workers.items }
-    requires ends { All (λ worker. IsFresh pool.intake worker.end) crew.workers.items }
-    requires rooms { All (λ worker. HasBatchFor C.most_tolds worker.room) crew.workers.items }
+    requires ready { All (IsReady (reading C.worker C.count C.answered C.front C.stored)
+        C.most_tolds pool.intake) crew.workers.items }
     requires left { HasRoomFor C.most_tolds left }
     requires own { own ≡ unused put.takers }
     ensures writer { result.1.ghost_name ≡ N.writer }

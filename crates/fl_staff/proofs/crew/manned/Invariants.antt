@@ -1,6 +1,7 @@
 use Rattle.std.proofs.Common.{◌≡◌, ◌+◌, ◌≤◌, ◌++◌, All, length, map, vec_capacity}
 use Rattle.std.specs.List.{range_with_len}
-use Rattle.fl_pool.specs.Working.{IsFresh, IsIdle, reading}
+use Rattle.fl_pool.specs.Running.{IsReady}
+use Rattle.fl_pool.specs.Working.{IsFresh, reading}
 use Rattle.fl_staff.specs.Served.{IsUnused}
 use Rattle.fl_workers.specs.Room.{HasBatchFor}
 use Rattle.fl_staff.proofs.crew.manned.Given as goal
@@ -18,10 +19,8 @@ invariant-loop-seat g l = record {
   unused : All (IsUnused (reading g.C.Counter.worker g.C.Counter.count g.C.Counter.answered g.C.Counter.front
       g.C.Counter.stored)) l.seat-iterator.rest.items;
   seats : map (λ worker. worker.post.seat) l.workers.items ++ l.seat-iterator.rest.items ≡ l.fn.seats.items;
-  idle : All (λ worker. IsIdle (reading g.C.Counter.worker g.C.Counter.count g.C.Counter.answered g.C.Counter.front
-      g.C.Counter.stored) worker.post.seat worker.post.own) l.workers.items;
-  with_ends : All (λ worker. IsFresh l._intake worker.end) l.workers.items;
-  with_rooms : All (λ worker. HasBatchFor g.C.Counter.most_tolds worker.room) l.workers.items;
+  ready : All (IsReady (reading g.C.Counter.worker g.C.Counter.count g.C.Counter.answered g.C.Counter.front
+      g.C.Counter.stored) g.C.Counter.most_tolds l._intake) l.workers.items;
   enough : (length l.ends.items ≡ length l.seat-iterator.rest.items)
       × (length l.rooms.items ≡ length l.seat-iterator.rest.items);
   fresh : All (IsFresh l._intake) l.ends.items;

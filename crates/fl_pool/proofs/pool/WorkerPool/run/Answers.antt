@@ -7,24 +7,18 @@ scoped-ran-requires g c = Once-at_one _ _ (λ x.
     let asked = c.requires in (
       asked.can,
       (
-        asked.idle,
+        asked.ready,
         (
-          asked.ends,
+          asked.some,
           (
-            asked.rooms,
-            (
-              asked.some,
-              (
-                search rules,
-                search rules,
-                search rules,
-                search rules,
-                search rules,
-                search rules,
-                search rules,
-                search rules,
-              ),
-            ),
+            search rules,
+            search rules,
+            search rules,
+            search rules,
+            search rules,
+            search rules,
+            search rules,
+            search rules,
           ),
         ),
       ),

@@ -1,24 +1,15 @@
-use Rattle.std.proofs.Common.{◌≡◌, ◌+◌, ◌++◌, ◌∙◌, ap, arith, length, length-append, map, rules, sym, true}
+use Rattle.std.proofs.Common.{◌≡◌, ◌++◌, ◌∙◌, ap, arith, length, length-append, map, rules, sym, true}
 use Rattle.std.specs.Prelude.{option_to_list}
 use Rattle.std.proofs.lemmas.List.{length-map, map-append}
-use Rattle.fl_pool.specs.Working.{IsFresh, IsIdle, reading}
-use Rattle.fl_workers.specs.Room.{HasBatchFor}
+use Rattle.fl_pool.specs.Running.{IsReady}
+use Rattle.fl_pool.specs.Working.{reading}
 use Rattle.fl_pool.proofs.RunningLemmas.{run_joined, split_all}
 use Rattle.fl_pool.proofs.pool.WorkerPool.run_in.Goals as goal
 
-pub start_all-requires-clause-idle : goal.start_all-requires-clause-idle
-start_all-requires-clause-idle g c _ _ =
-    (split_all (λ w. IsIdle (reading g.C.Counter.worker g.C.Counter.count g.C.Counter.answered g.C.Counter.front g.C.Counter.stored) w.post.seat w.post.own) c.first_of-first.result _ _ c.first_of-first.ensures c.requires.idle).1
-
-pub start_all-requires-clause-ends : goal.start_all-requires-clause-ends
-start_all-requires-clause-ends g c _ _ =
-    (split_all (λ w. IsFresh c.args.self.now.intake w.end) c.first_of-first.result _ _ c.first_of-first.ensures
-    c.requires.ends).1
-
-pub start_all-requires-clause-rooms : goal.start_all-requires-clause-rooms
-start_all-requires-clause-rooms g c _ _ =
-    (split_all (λ w. HasBatchFor g.C.Counter.most_tolds w.room) c.first_of-first.result _ _
-    c.first_of-first.ensures c.requires.rooms).1
+pub start_all-requires-clause-ready : goal.start_all-requires-clause-ready
+start_all-requires-clause-ready g c _ _ =
+    let read = reading g.C.Counter.worker g.C.Counter.count g.C.Counter.answered g.C.Counter.front g.C.Counter.stored in
+    (split_all (IsReady read g.C.Counter.most_tolds c.args.self.now.intake) c.first_of-first.result _ _ c.first_of-first.ensures c.requires.ready).1
 
 pub start_all-requires-clause-room : goal.start_all-requires-clause-room
 start_all-requires-clause-room g c _ _ =
@@ -29,19 +20,10 @@ start_all-requires-clause-room g c _ _ =
       c.args.crew.room.0,
     )
 
-pub receive-ran-requires-clause-idle : goal.receive-ran-requires-clause-idle
-receive-ran-requires-clause-idle g c _ _ =
-    (split_all (λ w. IsIdle (reading g.C.Counter.worker g.C.Counter.count g.C.Counter.answered g.C.Counter.front g.C.Counter.stored) w.post.seat w.post.own) c.first_of-first.result _ _ c.first_of-first.ensures c.requires.idle).0
-
-pub receive-ran-requires-clause-end : goal.receive-ran-requires-clause-end
-receive-ran-requires-clause-end g c _ _ =
-    (split_all (λ w. IsFresh c.args.self.now.intake w.end) c.first_of-first.result _ _ c.first_of-first.ensures
-    c.requires.ends).0
-
-pub receive-ran-requires-clause-batch : goal.receive-ran-requires-clause-batch
-receive-ran-requires-clause-batch g c _ _ =
-    (split_all (λ w. HasBatchFor g.C.Counter.most_tolds w.room) c.first_of-first.result _ _
-    c.first_of-first.ensures c.requires.rooms).0
+pub receive-ran-requires-clause-ready : goal.receive-ran-requires-clause-ready
+receive-ran-requires-clause-ready g c _ _ =
+    let read = reading g.C.Counter.worker g.C.Counter.count g.C.Counter.answered g.C.Counter.front g.C.Counter.stored in
+    (split_all (IsReady read g.C.Counter.most_tolds c.args.self.now.intake) c.first_of-first.result _ _ c.first_of-first.ensures c.requires.ready).0
 
 pub joined-requires-clause-room : goal.joined-requires-clause-room
 joined-requires-clause-room g c =
