@@ -5,8 +5,8 @@
 //! - a `run` that runs another command than is asked for;
 //! - a function of a command (`serve`, `serve_opened`, `resume`) that gives it other rules or workers, another path,
 //!   another `when_full`, or another trace than `opened` made, or has another status;
-//! - an `opened` or a `resume` whose file is at another path, or that is always refused; a `made` that writes over a
-//!   file that is there, or one of them that doesn't append;
+//! - an `opened` or a `resume` whose file is at another path, or that is always refused; an `end_traced` that never asks
+//!   for the file;
 //! - a `remove_unused` that takes away the trace's file of a session that was served, or another's file, or leaves one
 //!   of none;
 //! - any line of `--verbose`, and one without that option;

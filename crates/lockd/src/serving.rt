@@ -9,16 +9,17 @@ use lockd_cli::{Trace, WhenFull, WhenStuck};
 use lockd_commands::{CommandFault, Noting, Rules, Status};
 use lockd_serve::{
     Announcing, Observer, ServeOptions, TraceTo, Untraced, WhenUnwritten, WhenWriterFails,
-    end_unopened, end_without_file, is_at, is_unused, resume_on, serve_on,
+    end_traced_to, end_unopened, file_to_go_on_in, is_unused, new_file, remove_if_at, resume_on,
+    serve_on,
 };
 use lockd_stdio::{Host, ServerWords, hold_closed_streams};
-use std::fs::{File, Files, OpenOptions};
+use std::fs::{File, Files};
+use std::io;
 use std::io::{Stderr, Write};
 use std::net::Net;
 use std::path::Path;
 use std::sync::Wait;
 use std::thread::Threads;
-use std::{fs, io};
 
 // What writes a trace's file.
 type Written<'a> = Announcing<'a, File, Stderr>;
@@ -93,7 +94,7 @@ pub(crate) fn resume(
     let rt = host.rt;
     hold_closed_streams(rt);
     let mut words = server_words(host, socket, file);
-    let trace = match opened_behind(rt, file) {
+    let trace = match file_to_go_on_in(rt, file) {
         Ok(trace) => trace,
         Err(why) => {
             return end_unopened(&mut rt.stderr(), &mut words, Untraced::Unopened(why));
@@ -147,11 +148,11 @@ fn file_of(trace: &Trace) -> &str {
 }
 
 // Where the trace of `lockd serve` goes. Its file is made before the server listens.
-fn opened<'a, R: Files, F: Write, N: Write>(
+fn opened<'a, F: Write, O: Observer>(
     rt: &HostRuntime,
     trace: &'a Trace,
     faults: &mut F,
-    words: &mut ServerWords<'_, R, N>,
+    words: &mut O,
 ) -> Result<TraceTo<Written<'a>>, Status>
     ensures trace { IfOk result (GoesWhere trace.now) }
     ensures error { IfErr result (λ status. AsksFile trace.now × Ends (Some CommandFault.Trace) (record {
@@ -165,40 +166,12 @@ fn opened<'a, R: Files, F: Write, N: Write>(
         Trace::Printed => Ok(TraceTo::Output),
         Trace::Nowhere => Ok(TraceTo::Nowhere),
         Trace::File(file, _) => {
-            let made = match made(rt, file.as_str()) {
-                Ok(made) => made,
-                Err(error) => return Err(end_unopened(faults, words, Untraced::Unopened(error))),
-            };
-            words.begun();
-            lock(&made, words);
-            Ok(TraceTo::Writer(Announcing::new(made, file.as_str(), rt.stderr())))
+            match new_file(rt, file.as_str(), rt.stderr(), words) {
+                Ok(written) => Ok(TraceTo::Writer(written)),
+                Err(error) => Err(end_unopened(faults, words, Untraced::Unopened(error))),
+            }
         }
     }
-}
-
-// Locks a trace's file, so that no other server goes on in it.
-fn lock<R: Files, N: Write>(made: &File, words: &mut ServerWords<'_, R, N>) {
-    if let Err(error) = made.try_lock() {
-        words.unlocked(&io::Error::from(error));
-    }
-}
-
-// A new file at a path.
-fn made(rt: &HostRuntime, path: &str) -> io::Result<File> {
-    OpenOptions::new()
-        .append(true)
-        .create_new(true)
-        .open(rt, Path::new(path))
-}
-
-// The file at a path, which is made if there is none. What is written goes behind what it has.
-fn opened_behind(rt: &HostRuntime, path: &str) -> io::Result<File> {
-    let mut options = OpenOptions::new();
-    options
-        .read(true)
-        .append(true)
-        .create(true)
-        .open(rt, Path::new(path))
 }
 
 // Ends a server with this status. If its trace's file was removed or replaced, that is told.
@@ -213,11 +186,8 @@ fn end_traced<F: Write>(
     ensures bad { status ≢ Status.Good → result ≡ status }
 {
     match (trace, &written) {
-        (Trace::File(file, _), Some(written))
-            if !is_at(rt, Path::new(file.as_str()), written.file()) => {
-            let status = end_without_file(faults, status);
-            words.lost();
-            status
+        (Trace::File(file, _), Some(written)) => {
+            end_traced_to(rt, file.as_str(), written.file(), status, faults, words)
         }
         _ => status,
     }
@@ -235,10 +205,7 @@ fn kept_open(trace: &TraceTo<Written<'_>>) -> Option<File> {
 fn remove_unused(rt: &HostRuntime, trace: &Trace, made: &Option<File>, status: Status) {
     match (trace, made) {
         (Trace::File(file, _), Some(made)) if is_unused(status) => {
-            let path = Path::new(file.as_str());
-            if is_at(rt, path, made) {
-                let _ = fs::remove_file(rt, path);
-            }
+            remove_if_at(rt, file.as_str(), made);
         }
         _ => {}
     }

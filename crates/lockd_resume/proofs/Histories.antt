@@ -1,11 +1,11 @@
 -- A legal history can be read back from its text if its orders can.
-use Rattle.std.proofs.Common.{◌≡◌, ℕ, ◌+◌, ◌^◌, ◌<◌, ◌≤◌, Option, Some, None, IfSome, List, [], ◌∷◌, ◌++◌, All, map, refl, sym, subst, arith}
+use Rattle.std.proofs.Common.{◌≡◌, ℕ, ◌≤◌, Option, Some, None, IfSome, List, [], ◌∷◌, ◌++◌, All, map, sym, subst, arith}
 use Rattle.std.specs.List.{Contains, fold}
 use Rattle.std.specs.Ordering.{nat_cmp}
 use Rattle.std.specs.FinMap.{empty, get, get-empty}
 use Rattle.std.proofs.lemmas.List.Elements.{All-append, All-cons, All-contains_itself, All-head, All-map, All-nil, All-tail, All-weaker}
-use Rattle.fl_core.specs.Effects.{at_once, later, recorded, told_first}
-use Rattle.fl_core.specs.State.{State, opening}
+use Rattle.fl_core.specs.Effects.{at_once, later, told_first}
+use Rattle.fl_core.specs.State.{State}
 use Rattle.fl_core.specs.Step.{replies_in}
 use Rattle.fl_counter.specs.Answered.{step_lines}
 use Rattle.fl_desk.specs.Legal.{IsLegal, nothing, step}

@@ -1,12 +1,12 @@
 -- The numbers of a directory fit their fields, and so does what is answered there.
-use Rattle.std.proofs.Common.{◌≡◌, ◌≢◌, ℕ, ◌+◌, ◌-◌, ◌^◌, ◌<◌, ◌≤◌, ◌==◌, Bool, true, false, cond, not, ◌||◌, ◌&&◌, if◌then◌else◌}
+use Rattle.std.proofs.Common.{◌≡◌, ◌≢◌, ℕ, ◌+◌, ◌-◌, ◌^◌, ◌<◌, ◌==◌, Bool, true, false, cond, not, ◌||◌, if◌then◌else◌}
 use Rattle.std.proofs.Common.{T, Option, Some, None, option_map, Result, Ok, Err, List, [], ◌∷◌, refl, ap, sym, ◌∙◌, subst, arith}
-use Rattle.std.specs.Prelude.{bit_or, bit_and, nat_le}
+use Rattle.std.specs.Prelude.{bit_and, nat_le}
 use Rattle.std.specs.List as list
 use Rattle.std.specs.declared.cmp.Ordering.{Ordering}
 use Rattle.std.specs.declared.cmp.Ordering.TheVariants.{Less, Equal, Greater}
 use Rattle.std.specs.Ordering.{eq_by_cmp, is_eq, is_lt, nat_cmp, ordering_reverse}
-use Rattle.std.specs.Cmp.{IsTotalOrder, tied_itself, alike_right, first_so, second_so, Equal-is}
+use Rattle.std.specs.Cmp.{tied_itself, alike_right, first_so, second_so, Equal-is}
 use Rattle.std.specs.FinMap.{FinMap, get, find, entries, entries_sorted, get-entries, is_sorted, insert, remove, get-insert, get-remove}
 use Rattle.std.specs.FinMap.{contains_key, len, nat_cmp-IsAntisymmetric}
 use Rattle.std.specs.FinMap.Entries.{below_all}
@@ -16,16 +16,15 @@ use Rattle.std.proofs.lemmas.Nat.{and_le_r}
 use Rattle.std.specs.Int.Bits.{or_add_and}
 use Rattle.fl_dir.specs.declared.node.Node.{Node}
 use Rattle.fl_dir.specs.Changes.{changed_at, set_at, counted_up, counted_down, without_link, swept, swept_node, looked_up}
-use Rattle.fl_dir.specs.Changes.{after_lookup, after_made, after_reply, after_create, after_open, after_unlink, after_forget, after_close, unlinked}
-use Rattle.fl_dir.specs.Directory.{Listing, attributes, attributes_at, file_mode, is_known, is_named, is_reserved, linked, made_node, nodes_full, root_attributes}
+use Rattle.fl_dir.specs.Changes.{after_lookup, after_create, after_open, after_unlink, after_forget, after_close, unlinked}
+use Rattle.fl_dir.specs.Directory.{Listing, attributes, attributes_at, is_known, is_named, is_reserved, linked, made_node, nodes_full, root_attributes}
 use Rattle.fl_dir.specs.OpenFiles.{files_full, lives, without_file}
-use Rattle.fl_dir.specs.Replies.{directory_error, found_reply, lookup_reply, reopened, created, created_or_reopened, create_reply, open_reply}
+use Rattle.fl_dir.specs.Replies.{directory_error, found_reply, lookup_reply, created_or_reopened, create_reply, open_reply}
 use Rattle.fl_dir.specs.Replies.{lookups_full, attr_reply, getattr_reply, unlink_reply, unlinked_reply, unless_error}
 use Rattle.fl_order.specs.Sayable.{FitsAttr, FitsAnswer, FitsResult, FitsTold}
 use Rattle.fl_order.specs.declared.errno.Errno.{Errno}
 use Rattle.fl_order.specs.declared.told.Answer.{Answer}
 use Rattle.fl_order.specs.declared.told.Answer.TheVariants.{Done, Entry, Attr as Attributes, Open, Made, Lock}
-use Rattle.fl_order.specs.declared.told.Attr.{Attr}
 use Rattle.fl_order.specs.declared.told.Told.{Told}
 
 -- ---- answers, with room for one number more where a number is given out

@@ -1,5 +1,5 @@
 -- Lists that begin with others.
-use Rattle.std.proofs.Common.{◌≡◌, List, [], ◌++◌, sym, ◌∙◌}
+use Rattle.std.proofs.Common.{◌≡◌, List, [], sym, ◌∙◌}
 use Rattle.std.proofs.lemmas.List.{append-nil}
 use mathlib.Core.List.{IsPrefix}
 

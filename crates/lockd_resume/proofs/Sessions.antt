@@ -1,12 +1,10 @@
 -- The lines of a session can be read back from their text.
-use Rattle.std.proofs.Common.{◌≡◌, ℕ, ◌≤◌, Bool, true, false, if◌then◌else◌, Option, List, [], ◌∷◌, ◌++◌, All, map, refl, sym, subst, arith}
-use Rattle.std.specs.List.{fold}
+use Rattle.std.proofs.Common.{◌≡◌, Bool, true, false, if◌then◌else◌, List, [], ◌∷◌, All, map, refl, arith}
 use Rattle.std.proofs.lemmas.List.Elements.{All-append, All-cons, All-head, All-nil, All-tail}
 use Rattle.fl_core.specs.Step.{replies_in}
 use Rattle.fl_counter.specs.Answered.{step_lines}
 use Rattle.fl_desk.specs.Legal.{IsLegal, nothing, step}
 use Rattle.fl_desk.specs.Replay.{state_after}
-use Rattle.fl_history.specs.declared.history.Line.{Line}
 use Rattle.fl_history.specs.declared.history.Line.TheVariants as line
 use Rattle.fl_order.specs.Sayable.{IsSayable}
 use Rattle.fl_order.specs.declared.order.Order.{Order}
@@ -14,7 +12,7 @@ use Rattle.fl_order.specs.declared.told.Told.{Told}
 use Rattle.fl_session.specs.Again.{unmarked}
 use Rattle.fl_session.specs.Once.{orders_in}
 use Rattle.fl_session.specs.Session.{Came, Session, opening_session, session_from, session_of, with_either, with_incoming, with_message}
-use Rattle.fl_session.specs.Session.{with_order, with_orders, with_refusal, with_step}
+use Rattle.fl_session.specs.Session.{with_order, with_orders}
 use Rattle.fl_transport.specs.Handshake.{advanced, incoming_by, incoming_of, own_answer}
 use Rattle.fl_transport.specs.declared.handshake.Incoming.{Incoming}
 use Rattle.fl_transport.specs.declared.handshake.Incoming.TheVariants as incoming

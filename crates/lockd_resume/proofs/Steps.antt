@@ -1,21 +1,21 @@
 -- The numbers of what is there fit their fields, and so do those of what an order is answered there.
-use Rattle.std.proofs.Common.{◌≡◌, ℕ, zero, suc, ◌+◌, ◌^◌, ◌<◌, ◌≤◌, ◌==◌, Bool, true, false, not, ◌||◌, ◌&&◌, ◌↔◌, if◌then◌else◌, Option}
-use Rattle.std.proofs.Common.{Some, None, option_map, Result, Ok, Err, List, [], ◌∷◌, ◌++◌, All, map, length, refl, ap, sym, ◌∙◌, subst, arith, IfSome}
-use Rattle.std.specs.Prelude.{nat_lt, nat_le, bit_and}
+use Rattle.std.proofs.Common.{◌≡◌, ℕ, zero, suc, ◌^◌, ◌<◌, ◌≤◌, ◌==◌, Bool, true, false, not, ◌||◌, ◌&&◌, ◌↔◌, if◌then◌else◌, Option}
+use Rattle.std.proofs.Common.{Some, None, option_map, Result, Ok, Err, List, [], ◌∷◌, ◌++◌, All, length, refl, ap, sym, ◌∙◌, subst, arith, IfSome}
+use Rattle.std.specs.Prelude.{nat_lt, nat_le}
 use Rattle.std.specs.List.{filter, fold}
-use Rattle.std.specs.FinMap.{get, empty, get-empty}
+use Rattle.std.specs.FinMap.{get}
 use Rattle.std.proofs.lemmas.Bool.{ltb-false}
 use Rattle.std.proofs.lemmas.List.Elements.{All-append, All-cons, All-filter, All-head, All-map, All-nil, All-push, All-tail, All-weaker}
-use Rattle.fl_core.specs.Effects.{Effect, answered, at_once, by_reply, cleared_on, dropped, flushed, followed_by, later, later_to, leaving}
-use Rattle.fl_core.specs.Effects.{listing_answered, listing_unanswered, locked, locks_answered, made, recorded, released, replied, request_of}
-use Rattle.fl_core.specs.Effects.{told_first, unanswered, unlocked, waited_for, with_waiter}
-use Rattle.fl_core.specs.Replies.{ask_error, at_once_unless, ended, ended_all, ended_by, ended_if, ended_with, ending_of, error_of, file_reply, is_malformed}
-use Rattle.fl_core.specs.Replies.{first_told, getlk_reply, interrupt_reply, lock_answer, own_reply, picks, reply_to, room_reply}
+use Rattle.fl_core.specs.Effects.{Effect, at_once, by_reply, cleared_on, dropped, followed_by, later, later_to, leaving}
+use Rattle.fl_core.specs.Effects.{listing_answered, listing_unanswered, locked, locks_answered, recorded, replied, request_of}
+use Rattle.fl_core.specs.Effects.{told_first, waited_for, with_waiter}
+use Rattle.fl_core.specs.Replies.{ask_error, at_once_unless, ended, ended_all, ended_by, ended_with, file_reply, is_malformed}
+use Rattle.fl_core.specs.Replies.{first_told, getlk_reply, lock_answer, own_reply, reply_to, room_reply}
 use Rattle.fl_counter.specs.Tolds.{own_replies}
-use Rattle.fl_core.specs.Replies.{set_reply, setlk_reply, setlkw_reply, taken_reply, test_reply, type_of, wait_reply}
-use Rattle.fl_core.specs.Settling.{Present, Settled, answered_first, free_behind, granted_told, marking_granted, oldest_free, settled, settled_within}
-use Rattle.fl_core.specs.State.{Snapshot, State, View, opening, snapshot_of}
-use Rattle.fl_core.specs.Step.{after_first, replies, replies_in, settling}
+use Rattle.fl_core.specs.Replies.{set_reply, taken_reply, test_reply, type_of, wait_reply}
+use Rattle.fl_core.specs.Settling.{answered_first, free_behind, granted_told, marking_granted, oldest_free, settled_within}
+use Rattle.fl_core.specs.State.{Snapshot, State, View, snapshot_of}
+use Rattle.fl_core.specs.Step.{after_first, replies_in, settling}
 use Rattle.fl_dir.specs.Directory.{Listing}
 use Rattle.fl_dir.specs.OpenFiles.{has_open_file, is_open_on, without_file}
 use Rattle.fl_order.specs.Sayable.{FitsBody, FitsLock, IsSayable}
@@ -32,7 +32,7 @@ use Rattle.fl_order.specs.declared.told.Answer.{Answer}
 use Rattle.fl_order.specs.declared.told.Answer.TheVariants.{Done}
 use Rattle.fl_order.specs.declared.told.Told.{Told}
 use Rattle.fl_marks.specs.Blocker.{IsBlocker, blocker}
-use Rattle.fl_marks.specs.Change.{Change, cleared, last_said, marking_after, said_by, said_or, struck}
+use Rattle.fl_marks.specs.Change.{Change, cleared, last_said, marking_after, said_or, struck}
 use Rattle.fl_marks.specs.Marking.{Marking, Spot, Stroke, covers, stroked}
 use Rattle.fl_marks.specs.Runs.{runs}
 use Rattle.fl_marks.specs.declared.held.Held.{Held}

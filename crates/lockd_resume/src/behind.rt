@@ -120,7 +120,6 @@ fn recent_behind(recent: Recent, missing: &[Told]) -> Recent
 }
 
 // Writes what waits, and gives the file, and whether it has the text of all lines.
-#[tactic(auto, using(crate::proofs::Stored::fewer_there))]
 fn finish<T: Write>(stream: Streamed<T>) -> (T, bool)
     ensures there { HoldsText T.contents (T.contents result.0) stream.noted }
     ensures begun { IsBegun T.contents (T.contents result.0) stream.lines }

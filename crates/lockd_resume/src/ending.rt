@@ -84,7 +84,6 @@ pub fn end_printed<W: Write, F: Write>(
 
 /// Ends a session whose trace went to a writer: prints its fault, and that the trace failed if the writer lacks some of
 /// it. The writer comes back if the session has a history.
-#[tactic(auto, using(crate::proofs::Stored::fewer_there))]
 pub fn end_streamed<T: Write + Drop, F: Write>(
     faults: &mut F,
     recorded: Recorded<Streamed<T>>,

@@ -13,6 +13,7 @@ ghost use Rattle.lockd_resume.specs.Inside.{DiffersBy, told_of_reading};
 ghost use Rattle.lockd_resume.specs.Resumed.{lines_at};
 
 use crate::ending::{end_unheard, end_unopened};
+use crate::observer::ResumeObserver;
 use crate::point::ResumePoint;
 use crate::resuming::resume_stream;
 use fl_core::Rules;
@@ -23,8 +24,8 @@ use fl_session::SessionRoom;
 use fl_stream::StreamRoom;
 use lockd_faults::{CommandFault, Noting, Status, end};
 use lockd_streams::{
-    Announcing, Observer, OldSocket, Patient, Retrying, Spinning, Untraced, WhenUnwritten,
-    connection, end_without_file, is_at,
+    Announcing, OldSocket, Patient, Retrying, Spinning, Untraced, WhenUnwritten, connection,
+    end_without_file, is_at,
 };
 use std::alloc::Global;
 use std::fs::{File, Files, TryLockError};
@@ -49,7 +50,7 @@ const ASK: &[u8] = b"ask ";
 /// it isn't cut off within a line of an order: the file may be no trace. A fault of the session is one line on
 /// `faults`, and behind it `trace failed` if the file lacks lines, or is gone. The observer is told what the server
 /// does, and after `cannot listen` and `cannot trace` why it serves nobody.
-pub fn resume_on<R: Net + Files + Clock, F: Write, N: Write + Drop, O: Observer>(
+pub fn resume_on<R: Net + Files + Clock, F: Write, N: Write + Drop, O: ResumeObserver>(
     rt: &R,
     alloc: Global,
     path: Path<'_>,
@@ -127,7 +128,7 @@ fn is_regular(file: &File) -> bool {
 }
 
 // Ends a server that doesn't go on from its file: tells why, and the observer more of it.
-fn end_unresumed<F: Write, O: Observer>(
+fn end_unresumed<F: Write, O: ResumeObserver>(
     alloc: Global,
     faults: &mut F,
     observer: &mut O,

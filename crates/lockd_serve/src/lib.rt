@@ -28,7 +28,8 @@ mod unused;
 pub use fl_stream::WhenWriterFails;
 pub use lockd_resume::{HangUp, end_unopened, resume_on};
 pub use lockd_streams::{
-    Announcing, Observer, Parting, Untraced, WhenUnwritten, end_without_file, is_at,
+    Announcing, Observer, Parting, Untraced, WhenUnwritten, end_traced_to, file_to_go_on_in,
+    new_file, remove_if_at,
 };
 pub use options::{ServeOptions, TraceTo};
 pub use serve::serve_on;

@@ -1,6 +1,7 @@
 //! What `--verbose` adds on standard error.
 
 use lockd_commands::{Details, Status, explain_streams, explain_trace};
+use lockd_resume::ResumeObserver;
 use lockd_streams::{Observer, Parting, Untraced};
 use std::alloc::Global;
 use std::fmt::Display;
@@ -35,20 +36,6 @@ impl<'a, R: Files, W: Write> ServerWords<'a, R, W> {
             goes_on: false,
             listens: false,
         }
-    }
-
-    /// The trace's file was made.
-    pub fn begun(&mut self) {
-        let file = self.file;
-        self.say(format_args!("the trace goes to {file}"));
-    }
-
-    /// The trace's file was made, and can't be locked for this reason.
-    pub fn unlocked(&mut self, why: &io::Error) {
-        let file = self.file;
-        self.say(format_args!(
-            "{file}: it can't be locked: {why}\nlet no other server go on in it by --resume"
-        ));
     }
 
     /// The server ended so, and the last write to its output that failed did so for this reason.
@@ -96,18 +83,6 @@ impl<R: Files, W: Write> Observer for ServerWords<'_, R, W> {
         }
     }
 
-    fn resumed(&mut self) {
-        self.goes_on = true;
-        let file = self.file;
-        self.say(format_args!("going on behind the lines of {file}"));
-    }
-
-    fn unresumed(&mut self, alloc: Global, status: Status, details: &Details) {
-        if let Some(to) = &mut self.to {
-            explain_trace(to, alloc, status, self.file, details);
-        }
-    }
-
     fn unheard(&mut self, why: io::Error) {
         let socket = self.socket;
         if socket.is_empty() {
@@ -120,6 +95,18 @@ impl<R: Files, W: Write> Observer for ServerWords<'_, R, W> {
             unbound(self.rt, socket, why.kind(), self.goes_on)
         };
         self.say(format_args!("{socket}: {why}\n{advice}"));
+    }
+
+    fn traced(&mut self) {
+        let file = self.file;
+        self.say(format_args!("the trace goes to {file}"));
+    }
+
+    fn unlocked(&mut self, why: &io::Error) {
+        let file = self.file;
+        self.say(format_args!(
+            "{file}: it can't be locked: {why}\nlet no other server go on in it by --resume"
+        ));
     }
 
     fn untraced(&mut self, why: Untraced) {
@@ -152,6 +139,20 @@ impl<R: Files, W: Write> Observer for ServerWords<'_, R, W> {
         self.say(format_args!(
             "{file}: it was removed or replaced: another file is there by now, or none"
         ));
+    }
+}
+
+impl<R: Files, W: Write> ResumeObserver for ServerWords<'_, R, W> {
+    fn resumed(&mut self) {
+        self.goes_on = true;
+        let file = self.file;
+        self.say(format_args!("going on behind the lines of {file}"));
+    }
+
+    fn unresumed(&mut self, alloc: Global, status: Status, details: &Details) {
+        if let Some(to) = &mut self.to {
+            explain_trace(to, alloc, status, self.file, details);
+        }
     }
 }
 

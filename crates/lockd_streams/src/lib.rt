@@ -10,6 +10,11 @@
 //! - a `Retrying` that gives up at `Wait`, tries again at `End`, or doesn't pause; an `Announcing` that tells always or
 //!   never, or that all is written before it is;
 //! - an `is_at` that always gives the same answer;
+//! - a `new_file` or a `file_to_go_on_in` that is always refused, or whose file is at another path or doesn't append; a
+//!   `new_file` that writes over a file that is there, or doesn't lock its own; a `file_to_go_on_in` that empties the
+//!   file, makes none, or can't be read;
+//! - an `end_traced_to` that always or never says that the file is gone; a `remove_if_at` that removes another file, or
+//!   none; any of these that tells the observer something else than it did, or nothing;
 //! - a `Spinning` that never or always spins, reads on after a read that failed, or leaves its socket so that it
 //!   doesn't wait, and then gives `WouldBlock`;
 //! - a `Patient` that tries once, tries again after any failure, tells an error always or another, or leaves its socket
@@ -19,7 +24,8 @@
 //! - the file at the path, before a server listens: `try_paths_that_cannot_be_bound` of `tests/serve/sockets.py`;
 //! - the file at the path, once a client connects: `try_a_file_of_somebody_else` of `tests/serve/sockets.py`, and
 //!   `try_ends` of `tests/serve/sessions.py`;
-//! - files that go or can't be written: `tests/serve/traces.py`, `tests/resume/files.py`, which tries old sockets, too;
+//! - files that are there, go, or can't be written: `tests/serve/traces.py`, `tests/resume/files.py`, which tries old
+//!   sockets, too;
 //! - when all is written again: `tests/commands/words.py`, `tests/commands/texts.py`.
 //!
 //! None sees a `file_at` that gives another number for the device, since all their files lie on one. None sees a
@@ -36,4 +42,6 @@ pub use observer::{Observer, Parting, Untraced};
 pub use retrying::{Announcing, Retrying, WhenUnwritten};
 pub use socket::{OldSocket, connection};
 pub use spinning::{Patient, Spinning};
-pub use trace_file::{end_without_file, is_at};
+pub use trace_file::{
+    end_traced_to, end_without_file, file_to_go_on_in, is_at, new_file, remove_if_at,
+};

@@ -1,8 +1,5 @@
 //! What a server tells of itself beside its faults: what it does, and why it serves nobody.
 
-use fl_judge::Details;
-use lockd_faults::Status;
-use std::alloc::Global;
 use std::io;
 use std::io::ErrorKind;
 
@@ -18,15 +15,14 @@ pub trait Observer {
     /// last one did.
     fn ended(&mut self, client: Parting, unwritten: Option<ErrorKind>);
 
-    /// The lines of the trace's file were read, and it goes on behind them.
-    fn resumed(&mut self);
-
-    /// The lines of the trace's file were read, and it doesn't go on behind them. The fault of this status was told,
-    /// and these are the details of the lines.
-    fn unresumed(&mut self, alloc: Global, status: Status, details: &Details);
-
     /// No connection came, for this reason: `InvalidInput` at an empty path. `cannot listen` was told.
     fn unheard(&mut self, why: io::Error);
+
+    /// The trace's file was made.
+    fn traced(&mut self);
+
+    /// The trace's file was made, and can't be locked for this reason.
+    fn unlocked(&mut self, why: &io::Error);
 
     /// There is no file for the trace. `cannot trace` was told.
     fn untraced(&mut self, why: Untraced);
