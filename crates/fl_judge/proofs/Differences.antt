@@ -1,18 +1,16 @@
 -- Where lines break the rules, what is heard there, and what these want.
-use Rattle.std.proofs.Common.{◌≡◌, ℕ, suc, ◌+◌, ◌-◌, ◌^◌, ◌<◌, ◌≤◌, Bool, true, false, Option, Some, None, cond}
-use Rattle.std.proofs.Common.{List, [], ◌∷◌, ◌++◌, length, take, drop, slice_get, get_or}
-use Rattle.std.proofs.Common.{refl, ap, sym, ◌∙◌, subst, arith}
+use Rattle.std.proofs.Common.{◌≡◌, ℕ, suc, ◌+◌, ◌-◌, ◌<◌, ◌≤◌, true, false, Option, Some, None, cond}
+use Rattle.std.proofs.Common.{List, [], ◌∷◌, ◌++◌, length, take, drop, slice_get}
+use Rattle.std.proofs.Common.{ap, sym, ◌∙◌, subst, arith}
 use Rattle.std.proofs.lemmas.List.{length-append, take-append-le, take_all, get_or_append_left}
-use Rattle.std.proofs.lemmas.List.Sums.{count_by-le-length, sum_by-append}
+use Rattle.std.proofs.lemmas.List.Sums.{sum_by-append}
 use Rattle.std.proofs.lemmas.Option.{slice_get-get_or, slice_get_past}
 use Rattle.std.proofs.Math.Seq.{get_or-append_seam, take-append_seam}
 use Rattle.std.specs.Option.{is_some}
-use Rattle.fl_desk.specs.Legal.{IsLegal, is_asked, orders_asked}
+use Rattle.fl_desk.specs.Legal.{is_asked, orders_asked}
 use Rattle.fl_history.specs.declared.history.Line.{Line}
-use Rattle.fl_history.specs.declared.history.Line.TheVariants as line
-use Rattle.fl_judge.specs.declared.details.Difference.{Difference}
 use Rattle.fl_judge.specs.declared.replay.Replay.{Replay}
-use Rattle.fl_judge.specs.Details.{IsDueBehind, IsDifferenceAt, IsDifferenceOf}
+use Rattle.fl_judge.specs.Details.{IsDueBehind, IsDifferenceAt}
 use Rattle.fl_judge.specs.Hearing.{Hearing}
 use Rattle.fl_judge.specs.Inside.Heard.{LeadsUpTo, DiffersIn, Stands, IsStoppedAt, IsHeard, IsNoted}
 use Rattle.fl_judge.specs.Present.{told_lines}
@@ -57,10 +55,6 @@ difference_behind lines now r (Some due) n same at is some up =
     })
 
 -- ---- one line more
-
--- so many orders
-pub few_orders : (lines : List Line) → orders_asked lines ≤ length lines
-few_orders lines = count_by-le-length is_asked lines
 
 asked_on : (orders more : ℕ) (lines new : List Line) (l : Line) → new ≡ lines ++ l ∷ [] → orders ≡ orders_asked lines → more ≡ orders_asked (l ∷ [])
     → orders + more ≡ orders_asked new

@@ -1,7 +1,7 @@
 -- What a listener knows of the text so far.
 use Rattle.std.proofs.Common.{◌≡◌, ℕ, zero, suc, ◌+◌, ◌-◌, ◌<◌, ◌≤◌, min, inl, inr, ⊎_elim, Bool, true, false, Option, Some, None}
 use Rattle.std.proofs.Common.{List, [], ◌++◌, length, take, drop, refl, ap, sym, ◌∙◌, subst, arith, append-nil}
-use Rattle.std.proofs.Common.{take-add, length-append, Result, Ok, Err, IfSome, IfOk}
+use Rattle.std.proofs.Common.{take_at, take-add, length-append, Result, Ok, Err, IfSome, IfOk}
 use Rattle.std.proofs.KnownBytes.{Consumes-trans, Consumes-kept, Consumes-nil}
 use Rattle.std.proofs.lemmas.Bool.{cases_lt}
 use Rattle.std.proofs.lemmas.List.{length-take-le, take_all}
@@ -9,6 +9,7 @@ use Rattle.std.proofs.lemmas.List.Elements.{All-nil}
 use Rattle.std.proofs.lemmas.Option.{IfSome_then}
 use Rattle.std.specs.Io.KnownBytes.{Consumes, Keeps, IsAtEnd}
 use Rattle.std.specs.Option.{is_some}
+use Rattle.std.specs.Vec.{with_items}
 use Rattle.fl_judge.specs.Audit.{judged_part}
 use Rattle.fl_judge.specs.First.{AreWholeLines, IsSoOfAll, IsWithin}
 use Rattle.fl_judge.specs.Inside.Hearing.{HearsAll, Stops, Follows, Stands, Listens, HearsOn, HasRead, AreJudged, IsBad}
@@ -145,6 +146,28 @@ read_none left old new before after kept hears so = record {
   text = so.text;
   read = Consumes-kept left old new so.text so.read kept;
   listens = hears so.text so.listens;
+}
+
+-- nothing came
+pub read_nothing : (left old new : Option (List ℕ)) (l : Listener) (bytes : List ℕ) → bytes ≡ [] → Consumes old new bytes
+    → HasRead left old l → HasRead left new l
+read_nothing left old new l bytes none more so = record {
+  text = so.text;
+  read =
+      subst (Consumes left new) (ap (λ b. so.text ++ b) none ∙ append-nil so.text)
+      (Consumes-trans left old new so.text bytes so.read more);
+  listens = so.listens;
+}
+
+-- the bytes behind what is kept are others now
+pub read_room : (left now : Option (List ℕ)) (l : Listener) (r : List ℕ) → length r ≡ l.room.len → take l.kept r ≡ take l.kept l.room.items
+    → HasRead left now l
+    → HasRead left now (record { judge = l.judge; bytes = l.bytes; most = l.most; room = with_items l.room r; kept = l.kept; stopped = l.stopped })
+read_room left now l r long kept so = record {
+  text = so.text;
+  read = so.read;
+  listens =
+      other_room l _ refl refl refl refl refl (ap (take l.kept) (take_at r _ l.room.len long) ∙ kept) so.text so.listens;
 }
 
 pub read_first : (left : Option (List ℕ)) (l : Listener) → Listens [] l → HasRead left left l

@@ -1,5 +1,5 @@
 -- Lists that begin with others, and the lines that a stream has stored.
-use Rattle.std.proofs.Common.{◌≡◌, List, [], ◌∷◌, ◌++◌, ap, sym, ◌∙◌, subst, append_assoc}
+use Rattle.std.proofs.Common.{◌≡◌, ◌≢◌, ℕ, ◌<◌, List, [], ◌∷◌, ◌++◌, refl, ap, sym, ◌∙◌, subst, arith, append_assoc}
 use Rattle.std.proofs.lemmas.List.{append-nil}
 use mathlib.Core.List.{IsPrefix}
 use Rattle.fl_history.specs.declared.history.Line.{Line}
@@ -30,3 +30,8 @@ pub stored_behind : (s t : Stream) (line : Line) → t.manner ≡ s.manner → t
 stored_behind s t line same lines noted =
     subst (λ manner. IsPrefix (stored_by s.manner s.lines s.noted) (stored_by manner t.lines t.noted)) (sym same)
     (more_stored s.manner s.lines t.lines s.noted t.noted (of_one_more s.lines t.lines line lines) (of_itself s.noted t.noted noted))
+
+-- where room for a line shows that nothing waits
+pub none_waits : (xs : List ℕ) (room : ℕ) → (xs ≢ [] → room ≡ 0) → 0 < room → xs ≡ []
+none_waits [] room none some = refl
+none_waits (x ∷ xs) room none some = absurd (omega (arith, none (λ e. cc e), some))

@@ -116,11 +116,11 @@ module _ {W : Type 0} (contents : W → Option (List ℕ)) where
       }
 
   -- the text of a line more waits
-  pub line_waits : (held : Option (List ℕ)) (unsent unsent_now : List ℕ) (manner : WhenWriterFails)
-      (lines lines_now noted : List Line) (line : Line) → IsStreamed contents held unsent false manner lines noted
-      → unsent_now ≡ unsent ++ (line_text line ++ 10 ∷ []) → lines_now ≡ lines ++ line ∷ []
-      → IsStreamed contents held unsent_now false manner lines_now noted
-  line_waits held unsent unsent_now manner lines lines_now noted line kept waits comes =
+  pub line_waits : (held : Option (List ℕ)) (unsent unsent_now : List ℕ) (broken : Bool) (manner : WhenWriterFails)
+      (lines lines_now noted : List Line) (line : Line) → IsStreamed contents held unsent broken manner lines noted
+      → broken ≡ false → unsent_now ≡ unsent ++ (line_text line ++ 10 ∷ []) → lines_now ≡ lines ++ line ∷ []
+      → IsStreamed contents held unsent_now broken manner lines_now noted
+  line_waits held unsent unsent_now broken manner lines lines_now noted line kept is_whole waits comes =
       let t = line_text line ++ 10 ∷ [] in
       record {
         sent = kept.sent;
@@ -129,21 +129,21 @@ module _ {W : Type 0} (contents : W → Option (List ℕ)) where
         parts =
             ap (λ u. kept.sent ++ u) (append-nil unsent_now ∙ waits)
             ∙ sym (append_assoc kept.sent unsent t)
-            ∙ ap (λ u. (kept.sent ++ u) ++ t) (sym (append-nil unsent) ∙ ap (λ u. unsent ++ u) (sym (kept.whole refl)))
+            ∙ ap (λ u. (kept.sent ++ u) ++ t) (sym (append-nil unsent) ∙ ap (λ u. unsent ++ u) (sym (kept.whole is_whole)))
             ∙ ap (λ u. u ++ t) kept.parts
             ∙ sym (text_one lines line) ∙ ap text_of (sym comes);
         whole = λ _. refl;
-        over = λ e. absurd (cc e);
-        breaks = λ e. absurd (cc e);
+        over = λ e. absurd (cc (is_whole, e));
+        breaks = λ e. absurd (cc (is_whole, e));
         there = kept.there;
         front = of_another noted lines lines_now kept.front (of_one_more lines lines_now line comes);
       }
 
   -- a line more is lost
-  pub line_lost : (held : Option (List ℕ)) (unsent : List ℕ) (manner : WhenWriterFails) (lines lines_now noted : List Line) (line : Line)
-      → IsStreamed contents held unsent true manner lines noted → lines_now ≡ lines ++ line ∷ []
-      → IsStreamed contents held unsent true manner lines_now noted
-  line_lost held unsent manner lines lines_now noted line kept comes =
+  pub line_lost : (held : Option (List ℕ)) (unsent : List ℕ) (broken : Bool) (manner : WhenWriterFails)
+      (lines lines_now noted : List Line) (line : Line) → IsStreamed contents held unsent broken manner lines noted
+      → broken ≡ true → lines_now ≡ lines ++ line ∷ [] → IsStreamed contents held unsent broken manner lines_now noted
+  line_lost held unsent broken manner lines lines_now noted line kept is_broken comes =
       let t = line_text line ++ 10 ∷ [] in
       record {
         sent = kept.sent;
@@ -154,7 +154,7 @@ module _ {W : Type 0} (contents : W → Option (List ℕ)) where
             ∙ sym (append_assoc kept.sent (unsent ++ kept.lost) t)
             ∙ ap (λ u. u ++ t) kept.parts
             ∙ sym (text_one lines line) ∙ ap text_of (sym comes);
-        whole = λ e. absurd (cc e);
+        whole = λ e. absurd (cc (is_broken, e));
         over = kept.over;
         breaks = kept.breaks;
         there = kept.there;

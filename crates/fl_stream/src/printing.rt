@@ -56,7 +56,7 @@ pub fn write_trace<W: Write>(
 }
 
 // Writes the text of a history through this room, and says whether all of it is written and handed on.
-#[tactic(auto, using(crate::proofs::Pieces::printed_none, crate::proofs::Pieces::printed_moved, crate::proofs::Pieces::printed_some, crate::proofs::Pieces::printed_all))]
+#[tactic(auto, using(crate::proofs::Pieces::printed_none))]
 fn write_lines<W: Write>(history: &History, waiting: &mut Vec<u8>, writer: &mut W) -> bool
     requires none { waiting.old.items ≡ [] }
     requires room { 700 ≤ vec_capacity waiting.old }

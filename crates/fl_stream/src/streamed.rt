@@ -162,7 +162,7 @@ impl<W: Write> Streamed<W> {
     }
 
     /// Whether the writer holds the text of all lines.
-    #[tactic(auto, using(crate::proofs::Streaming::begun, crate::proofs::Streaming::all_sent))]
+    #[tactic(auto, using(crate::proofs::Streaming::begun))]
     pub fn is_whole(&self) -> bool
         ensures value { IsTrue result ↔ (self.now.broken ≡ false) × (self.now.unsent ≡ []) }
         ensures all { IsTrue result → Wrote W.contents self.now.held (text_of self.now.lines) }
@@ -200,7 +200,6 @@ impl<W: Write> Streamed<W> {
     }
 
     // A line more, whose text waits.
-    #[tactic(auto, using(crate::proofs::Streaming::line_waits, crate::proofs::Streaming::line_lost))]
     fn push(&mut self, line: &Line)
         requires room { 0 < self.old.room }
         ensures lines { self.new.lines ≡ self.old.lines ++ line.now ∷ [] }
@@ -240,7 +239,7 @@ impl<W: Write> Streamed<W> {
         self.count_room();
     }
 
-    #[tactic(auto, using(crate::proofs::Streaming::moved_on, crate::proofs::Streaming::kept_broken))]
+    #[tactic(auto, using(crate::proofs::Streaming::kept_broken))]
     fn send(&mut self) -> bool
         ensures lines { self.new.lines ≡ self.old.lines }
         ensures noted { self.new.noted ≡ self.old.noted }

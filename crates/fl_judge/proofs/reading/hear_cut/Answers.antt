@@ -1,4 +1,4 @@
-use Rattle.std.proofs.Common.{Option, None, List, ℕ, true, sym, subst}
+use Rattle.std.proofs.Common.{None, List, true, sym, subst}
 use Rattle.fl_judge.proofs.Listening.{of_all, other_err, whole_first}
 use Rattle.fl_judge.proofs.reading.hear_cut.Goals as goal
 use Rattle.fl_history.specs.declared.history.Line.{Line}

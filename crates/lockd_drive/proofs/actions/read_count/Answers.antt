@@ -1,4 +1,4 @@
-use Rattle.std.proofs.Common.{◌≡◌, ◌≤◌, rules, arith}
+use Rattle.std.proofs.Common.{◌≡◌, ◌≤◌, rules}
 use Rattle.std.specs.Fmt.{decimal}
 use Rattle.lockd_drive.proofs.ActionLemmas.{count_is}
 use Rattle.lockd_drive.proofs.actions.read_count.Goals as goal

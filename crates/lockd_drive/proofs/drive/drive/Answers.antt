@@ -1,7 +1,8 @@
-use Rattle.std.proofs.Common.{◌≡◌, Ok, map, rules, sym, subst}
+use Rattle.std.proofs.Common.{◌≡◌, Ok, inl, map, refl, rules, sym, subst}
 use Rattle.lockd_drive.specs.Drive.{text_says}
 use Rattle.lockd_drive.specs.Drive.Inside.{said_by, TextFaults}
-use Rattle.lockd_drive.proofs.DriveLemmas.{did_all, did_not_begin, did_not_connect, did_stop, in_part, in_part_none}
+use Rattle.lockd_faults.specs.declared.fault.CommandFault.TheVariants.{NoMemory}
+use Rattle.lockd_drive.proofs.DriveLemmas.{did_all, did_not_begin, did_not_connect, did_not_read, did_stop, in_part, in_part_none}
 use Rattle.lockd_drive.proofs.drive.drive.Goals as goal
 
 pub returns-in_err-actions-clause-did : goal.returns-in_err-actions-clause-did
@@ -55,4 +56,15 @@ returns-in_err-drive_over-clause-begun g c =
     let begun = in_part (g.R.Read.remaining c.args.input.now) (g.W.Write.contents c.args.output.now)
     (g.W.Write.contents c.drive_over.new.output) _ _ text (map said_by c.deref-2.result.now)
     c.in_ok-text.ensures.bytes said c.in_err-drive_over.ensures.begun in
+    search rules
+
+pub returns-in_err-text-clause-did : goal.returns-in_err-text-clause-did
+returns-in_err-text-clause-did g c =
+    let did = did_not_read (g.R.Read.remaining c.args.input.now) (g.W.Write.contents c.args.output.now)
+    c.in_err-text.field-0.0 c.in_err-text.ensures.error in
+    search rules
+
+pub returns-in_err-room-clause-did : goal.returns-in_err-room-clause-did
+returns-in_err-room-clause-did g c =
+    let did = did_not_read (g.R.Read.remaining c.args.input.now) (g.W.Write.contents c.args.output.now) NoMemory (inl refl) in
     search rules

@@ -1,4 +1,4 @@
-use Rattle.std.proofs.Common.{◌≡◌, ◌≤◌, ◌<◌, rules, length, arith}
+use Rattle.std.proofs.Common.{◌≤◌, ◌<◌, rules, length, arith}
 use Rattle.std.proofs.lemmas.Grind.{common_steps}
 use Rattle.fl_wire.specs.Layout.{len_of}
 use Rattle.lockd_drive.proofs.FillLemmas.{bad_head, framed_is, read_is, rest_short}

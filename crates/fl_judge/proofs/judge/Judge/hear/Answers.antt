@@ -1,6 +1,6 @@
-use Rattle.std.proofs.Common.{◌^◌, ◌<◌, length, subst, sym, arith}
+use Rattle.std.proofs.Common.{◌^◌, ◌<◌, length, subst, sym}
 use Rattle.fl_judge.specs.Hearing.{Hearing}
-use Rattle.fl_judge.proofs.Differences.{noted_wrong, noted_alike, noted_still, few_orders}
+use Rattle.fl_judge.proofs.Differences.{noted_wrong, noted_alike, noted_still}
 use Rattle.fl_judge.proofs.Verdicts.{heard_wrong, heard_alike, heard_still}
 use Rattle.fl_judge.proofs.judge.Judge.hear.Goals as goal
 

@@ -1,4 +1,4 @@
-use Rattle.std.proofs.Common.{◌≡◌, List, [], rules, refl, ap, ◌∙◌, arith}
+use Rattle.std.proofs.Common.{rules, refl, ap, ◌∙◌, arith}
 use Rattle.fl_judge.proofs.Listening.{listens_first, none_within}
 use Rattle.fl_judge.proofs.listener.Listener.new.Goals as goal
 use Rattle.fl_judge.specs.Hearing.{Hearing}

@@ -2,7 +2,7 @@ use Rattle.std.proofs.Common.{◌≡◌, ◌∙◌, Option, List, ℕ, take, tak
 use Rattle.std.proofs.KnownBytes.{Keeps-refl}
 use Rattle.std.specs.Io.KnownBytes.{Consumes}
 use Rattle.std.specs.Vec.{with_items}
-use Rattle.fl_judge.proofs.Listening.{read_more, read_none, other_room}
+use Rattle.fl_judge.proofs.Listening.{read_more, read_none, read_nothing, read_room, other_room}
 use Rattle.fl_judge.proofs.listener.Listener.read.Goals as goal
 use Rattle.fl_judge.specs.declared.listener.Listener.{Listener}
 
@@ -37,3 +37,16 @@ returns-in-Ok-clause-keeps g c = c.hear.ensures.keeps
 
 pub returns-in-Ok-clause-most : goal.returns-in-Ok-clause-most
 returns-in-Ok-clause-most g c = c.hear.ensures.most
+
+pub returns-in-Ok-eq0-clause-reads : goal.returns-in-Ok-eq0-clause-reads
+returns-in-Ok-eq0-clause-reads g c left so =
+    read_nothing left _ _ _ _ (ap (λ n. take n (drop c.args.self.now.kept c.read_piece.new.room)) c.in-Ok-eq0.field-0-test)
+    c.in-Ok-eq0.ensures.read
+    (read_room left _ c.args.self.now c.read_piece.new.room (c.read_piece.auto.room ∙ c.deref_mut.ensures.len)
+    (c.read_piece.ensures.kept ∙ ap (take c.args.self.now.kept) c.deref_mut.ensures.value) so)
+
+pub returns-in-Err-clause-reads : goal.returns-in-Err-clause-reads
+returns-in-Err-clause-reads g c left so =
+    read_none left _ _ _ _ c.in-Err.ensures.failed (λ text is. is)
+    (read_room left _ c.args.self.now c.read_piece.new.room (c.read_piece.auto.room ∙ c.deref_mut.ensures.len)
+    (c.read_piece.ensures.kept ∙ ap (take c.args.self.now.kept) c.deref_mut.ensures.value) so)
