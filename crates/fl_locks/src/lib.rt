@@ -17,8 +17,6 @@ mod lock;
 mod name;
 mod row;
 mod table;
-#[cfg(test)]
-mod tests;
 mod words;
 
 pub use json::lock_json;

@@ -1,6 +1,7 @@
-//! Tests of the arena, of rows, of spans and of the lock table, by what is public of them.
+//! Tests of the arena, of rows, of spans, of the lock table and of lists of locks, by what is public of them.
 
 mod arena;
+mod lists;
 mod ranges;
 mod rows;
 mod spans;

@@ -1,7 +1,7 @@
-//! Both texts of a file whose name isn't known, which no program lists. `tests/locks/listing.py` and
-//! `tests/locks/ranges.py` have the others.
+//! Both texts of a list of locks with a file whose name isn't known, which no program lists. `tests/locks/listing.py`
+//! has the others.
 
-use crate::{Blockers, LockRow, lock_json, lock_table};
+use fl_locks::{Blockers, LockRow, lock_json, lock_table};
 use fl_marks::{Class, Key, Kind, LAST_BYTE, Mark};
 use std::alloc::Global;
 
