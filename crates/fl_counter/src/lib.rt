@@ -1,9 +1,9 @@
-//! What a worker needs: a counter at which it hands orders in and looks, a gate that is called for each, and room for
-//! the replies to an order and to a batch of orders. And what replicas need of a lock directory.
+//! What workers need: a counter at which they hand orders in and look, a gate that is called for each, and room for the
+//! replies to an order and to a batch of orders. `LockDirectory` says what replicas need of a lock directory.
 //!
-//! `Counter` and `LockDirectory` state contracts, which a board of `fl_board` and a core of `fl_core` keep. What an
-//! order does is defined above. Contracts let through a `pause` that does nothing, and a `Tolds::new` that is always
-//! refused, or has more room than its rules want; tests refuse these.
+//! A board of `fl_board` is a `Counter`, and a core of `fl_core` a `LockDirectory`. What an order does is defined above.
+//! Contracts let through a `pause` that does nothing, a `try_clone` that is always refused, and a `Tolds::new` that is
+//! always refused, or has more room than its rules want; tests refuse these.
 #![tactic(auto)]
 
 mod counter;

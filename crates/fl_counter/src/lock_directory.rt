@@ -1,4 +1,4 @@
-//! A lock directory, as replicas follow it.
+//! What replicas need of a lock directory.
 
 ghost use Rattle.std.specs.Prelude.{◌≡◌, ◌↔◌, true, List, IfOk, IsSome};
 ghost use Rattle.fl_counter.specs.Tolds.{HasRoom, own_replies};
@@ -12,7 +12,7 @@ use fl_order::{Answer, Errno, NoMemory, Order};
 use fl_waiting::Rules;
 use std::alloc::Global;
 
-/// A lock directory, of which replicas take the same orders.
+/// A lock directory that can be copied, and whose copies follow it by taking the same orders.
 pub trait LockDirectory: Drop {
     /// By which rules requests wait.
     ghost rules: { Self → Rules };

@@ -1,4 +1,4 @@
-//! The question whose locks conflict, of whatever keeps a marking.
+//! Whose locks conflict with one that is wanted, asked of anything that keeps a marking.
 
 ghost use Rattle.std.specs.Prelude.{◌≡◌, length};
 ghost use Rattle.std.specs.List.Sorted.{IsNonDecreasing};
