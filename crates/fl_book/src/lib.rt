@@ -28,5 +28,8 @@ pub use fl_desk::{
 pub use fl_history::{History, Journal, Line, Lines, NoJournal};
 pub use fl_judge::quiet;
 pub use fl_log::Ask;
-pub use fl_stream::{Streamed, TraceRoom, Unwritten, WhenWriterFails, write_trace};
-pub use fl_trace::{TraceFault, first_line, has_text, print_trace, read_trace};
+pub use fl_stream::{
+    Streamed, TraceFault, TraceRoom, Unwritten, WhenWriterFails, has_text, print_trace, read_trace,
+    write_trace,
+};
+pub use fl_trace::first_line;

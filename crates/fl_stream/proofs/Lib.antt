@@ -1,3 +1,5 @@
 pub mod Pieces
 pub mod Prefixes
 pub mod Streaming
+pub mod Places
+pub mod Reading

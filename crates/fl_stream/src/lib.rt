@@ -1,4 +1,4 @@
-//! Lines that go to a writer as their text.
+//! The text of histories: of lines that go to a writer, and of a history in memory, both ways.
 //!
 //! What was written, what waits and what is lost are together the text of all lines. Something is lost only if the
 //! stream is broken, and then nothing more is written. Only a stream that goes on without its writer breaks. A stream
@@ -12,14 +12,18 @@
 //! - a `finish`, or at `Refuse` and `End` a `store_all` or a `store_if_due`, that says no though no write failed;
 //! - at `GoOn`, a `store_if_due` that writes;
 //! - a `write_trace` that is always refused, tells a failed write though none failed, or takes more memory.
-//! `fl_stream_tests` and `tests/serve/traces.py` refuse these.
+//! `fl_stream_tests` and `tests/serve/traces.py` refuse these. Only tests show that `NoMemory` comes only if an allocation
+//! was refused, and that `read_trace` and `print_trace` do their work when they are called again:
+//! `a_trace_is_read_and_printed_by_the_second_try` of `fl_stream_tests`, with each allocation refused in turn.
 #![tactic(auto)]
 
 mod manner;
 mod printing;
 mod streamed;
+mod text;
 mod writing;
 
 pub use manner::WhenWriterFails;
 pub use printing::{TraceRoom, Unwritten, write_trace};
 pub use streamed::{StreamRoom, Streamed};
+pub use text::{TraceFault, has_text, print_trace, read_trace};

@@ -9,8 +9,7 @@ mod replies;
 mod storing;
 
 use fl_history::{History, Journal, Line};
-use fl_stream::Streamed;
-use fl_trace::read_trace;
+use fl_stream::{Streamed, read_trace};
 use std::alloc::Global;
 use std::io::Write;
 use std::process::Abort;

@@ -6,7 +6,6 @@ pub mod OneText
 pub mod FirstWords
 pub mod Reading
 pub mod Newlines
-pub mod Places
 pub mod Numbers
 pub mod Digits
 pub mod Lengths

@@ -1,57 +1,15 @@
-//! Lines and histories, read from their text.
+//! Lines, read from their text.
 
-ghost use Rattle.std.specs.Prelude.{◌≡◌, ◌⊎◌, ℕ, ◌<◌, ◌++◌, ◌∷◌, List, length, Ok, Err, IfOk, IfSome, IsSome};
-ghost use Rattle.std.specs.Prelude.{IsSomeAnd, codes};
+ghost use Rattle.std.specs.Prelude.{◌≡◌, ℕ, ◌++◌, ◌∷◌, List, IfSome, IsSome, IsSomeAnd, codes};
 ghost use Rattle.fl_history.specs.declared.history.Line.{Line};
 ghost use Rattle.fl_history.specs.declared.history.Line.TheVariants.{Asked};
 ghost use Rattle.fl_order.specs.declared.order.Order.{Order};
-ghost use Rattle.fl_trace.specs.Text.{asked_text, line_text, text_of, LineFits, Fits, BreaksAt};
+ghost use Rattle.fl_trace.specs.Text.{asked_text, line_text, LineFits};
 
 use crate::ask::asked_order;
 use crate::tell::read_told;
 use crate::words::{split_line, split_word, u32_word};
-use fl_history::{History, Line};
-use fl_order::NoMemory;
-use std::alloc::Global;
-
-/// Why a text is not read.
-#[derive(Clone, Copy, Debug, PartialEq, Eq)]
-pub enum TraceFault {
-    /// This line, from 1, is the first that is no spelling of a line.
-    BadLine(usize),
-    /// Out of memory.
-    NoMemory,
-}
-
-impl From<NoMemory> for TraceFault {
-    ghost use Rattle.fl_trace.specs.declared.read.TraceFault.TheVariants.{NoMemory};
-
-    ghost from_gives = { λ _ fault. fault ≡ NoMemory };
-
-    fn from(_e: NoMemory) -> TraceFault {
-        TraceFault::NoMemory
-    }
-}
-
-/// The history of a text, as `docs/TRACE.md` says. A bad line is reported only if memory for the lines before
-/// it was there.
-pub fn read_trace(alloc: Global, text: &[u8]) -> Result<History, TraceFault>
-    ensures read { IfOk result (λ history. Fits history × (text.now ≡ text_of history)) }
-    ensures only { (lines : List Line) → Fits lines → text.now ≡ text_of lines →
-        (result ≡ Ok lines) ⊎ (result ≡ Err TraceFault.NoMemory) }
-    ensures bad { (n : ℕ) → result ≡ Err (TraceFault.BadLine n) → BreaksAt LineFits text.now n }
-{
-    let mut history = History::new(alloc);
-    let mut rest = text;
-    while !rest.is_empty() {
-        let Some((line, after)) = first_line(rest) else {
-            return Err(TraceFault::BadLine(history.len() + 1));
-        };
-        history.push(&line)?;
-        rest = after;
-    }
-    Ok(history)
-}
+use fl_history::Line;
 
 /// The first line of a text, and the text after its newline; none if no line that can be read back begins
 /// the text.

@@ -3,7 +3,7 @@
 
 use super::{LINES, TRACE, count_is, holds};
 use fl_history::History;
-use fl_trace::{TraceFault, print_trace, read_trace};
+use fl_stream::{TraceFault, print_trace, read_trace};
 use std::alloc::Global;
 use std::process::Abort;
 

@@ -3,8 +3,8 @@
 use fl_history::Line;
 use fl_intake::Job;
 use fl_order::{Name, Op, Order};
+use fl_stream::read_trace;
 use fl_testing::{Reply, first_reply};
-use fl_trace::read_trace;
 use std::alloc::Global;
 use std::process::Abort;
 

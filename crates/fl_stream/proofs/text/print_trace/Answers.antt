@@ -4,8 +4,8 @@ use Rattle.std.proofs.lemmas.List.{take_all}
 use Rattle.std.proofs.lemmas.Str.{IsUtf8-nil}
 use Rattle.std.specs.Str.{IsUtf8}
 use Rattle.fl_trace.specs.Text.{text_of}
-use Rattle.fl_trace.proofs.Places.{text_more}
-use Rattle.fl_trace.proofs.print.print_trace.Goals as goal
+use Rattle.fl_stream.proofs.Places.{text_more}
+use Rattle.fl_stream.proofs.text.print_trace.Goals as goal
 
 pub loop-at-init : goal.loop-at-init
 loop-at-init c = (search rules, subst IsUtf8 (sym c.new-text.ensures.items) IsUtf8-nil)

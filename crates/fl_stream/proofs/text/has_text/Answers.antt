@@ -1,8 +1,8 @@
 use Rattle.std.proofs.Common.{◌≤◌, length, refl, arith}
 use Rattle.std.proofs.lemmas.Grind.{common_steps}
 use Rattle.fl_trace.specs.Text.{LineFits}
-use Rattle.fl_trace.proofs.Places.{fits_more, fits_all}
-use Rattle.fl_trace.proofs.print.has_text.Goals as goal
+use Rattle.fl_stream.proofs.Places.{fits_more, fits_all}
+use Rattle.fl_stream.proofs.text.has_text.Goals as goal
 
 pub loop-at-preserved : goal.loop-at-preserved
 loop-at-preserved c =

@@ -1,7 +1,7 @@
 use Rattle.std.proofs.Common.{◌≡◌, take}
 use Rattle.std.specs.Str.{IsUtf8}
 use Rattle.fl_trace.specs.Text.{text_of}
-use Rattle.fl_trace.proofs.print.print_trace.Given as goal
+use Rattle.fl_stream.proofs.text.print_trace.Given as goal
 
 -- the lines so far are written, and are text
 abbrev pub invariant-loop-at : goal.invariant-loop-at

@@ -1,6 +1,6 @@
 use Rattle.std.proofs.Common.{length}
-use Rattle.fl_trace.proofs.Reading.{IsReadSoFar}
-use Rattle.fl_trace.proofs.read.read_trace.Given as goal
+use Rattle.fl_stream.proofs.Reading.{IsReadSoFar}
+use Rattle.fl_stream.proofs.text.read_trace.Given as goal
 
 -- the text is the lines that are read, and the rest
 abbrev pub invariant-loop-rest : goal.invariant-loop-rest

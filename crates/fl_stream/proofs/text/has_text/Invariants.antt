@@ -1,6 +1,6 @@
 use Rattle.std.proofs.Common.{take}
 use Rattle.fl_trace.specs.Text.{Fits}
-use Rattle.fl_trace.proofs.print.has_text.Given as goal
+use Rattle.fl_stream.proofs.text.has_text.Given as goal
 
 -- the lines so far fit
 abbrev pub invariant-loop-at : goal.invariant-loop-at
