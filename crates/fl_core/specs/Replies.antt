@@ -1,10 +1,10 @@
 -- What an order is answered at once (POSIX.1-2017 `fcntl`, F_GETLK and F_SETLK; Linux `flock(2)`; the requests of Linux
 -- `fuse.h`).
-use Rattle.std.specs.Prelude.{ℕ, Bool, not, ◌||◌, ◌&&◌, ◌==◌, nat_le, nat_lt, Option, Some, None, Result, Ok, Err}
-use Rattle.std.specs.Prelude.{List, [], ◌∷◌, ◌++◌, length, map, if◌then◌else◌}
+use Rattle.std.specs.Prelude.{ℕ, Bool, not, ◌==◌, nat_le, nat_lt, Option, Some, None, Result, Ok, Err}
+use Rattle.std.specs.Prelude.{List, [], ◌++◌, length, map, if◌then◌else◌}
 use Rattle.std.specs.List.{filter}
 use Rattle.fl_waiting.specs.Circle.{is_deadlock}
-use Rattle.fl_waiting.specs.LockRequest.{is_flock, key_of, mark_of, stroke_of}
+use Rattle.fl_waiting.specs.LockRequest.{is_flock, is_malformed, key_of, lock_answer, mark_of, stroke_of}
 use Rattle.fl_core.specs.State.{View, Snapshot}
 use Rattle.fl_counter.specs.Tolds.{own_replies}
 use Rattle.fl_waiting.specs.Waiting.{is_blocked, conflicts_with_held, is_parked}
@@ -18,27 +18,18 @@ use Rattle.fl_dir.specs.Replies.{lookup_reply, create_reply, open_reply, getattr
 use Rattle.fl_order.specs.declared.errno.Errno.{Errno}
 use Rattle.fl_order.specs.declared.errno.Errno.TheVariants.{EINTR, EBADF, EINVAL, EAGAIN, EDEADLK, ENOLCK}
 use Rattle.fl_order.specs.declared.told.Answer.{Answer}
-use Rattle.fl_order.specs.declared.told.Answer.TheVariants.{Done, Lock}
+use Rattle.fl_order.specs.declared.told.Answer.TheVariants.{Done}
 use Rattle.fl_order.specs.declared.told.Told.{Told}
 use Rattle.fl_order.specs.declared.order.Order.{Order}
 use Rattle.fl_order.specs.declared.order.Op.{Op}
 use Rattle.fl_order.specs.declared.order.Op.TheVariants.{Lookup, Forget, Getattr, Unlink, Open, Release, Flush}
 use Rattle.fl_order.specs.declared.order.Op.TheVariants.{Create, Getlk, Setlk, Setlkw, Interrupt}
 use Rattle.fl_order.specs.declared.order.LockAsk.{LockAsk}
-use Rattle.fl_marks.specs.declared.held.Held.{Held}
 use Rattle.fl_marks.specs.declared.lock.Key.{Key}
-use Rattle.fl_marks.specs.declared.lock.Kind.{Kind}
-use Rattle.fl_marks.specs.declared.lock.Kind.TheVariants.{Read, Write}
 use Rattle.fl_marks.specs.declared.lock.Mark.{Mark}
 use Rattle.fl_marks.specs.Marking.{Marking, Stroke, stroked}
 use Rattle.fl_marks.specs.Runs.{runs}
 use Rattle.fl_marks.specs.Blocker.{blocker}
-
--- other flags than the whole-file bit, a type above 2, or a range of a record lock that is no range
-abbrev pub is_malformed : LockAsk → Bool
-is_malformed ask =
-    nat_lt 1 ask.flags
-    || (nat_lt 2 ask.kind || (not (is_flock ask) && (nat_lt ask.end ask.start || nat_lt 9223372036854775807 ask.end)))
 
 -- a change of locks is made if at most so many runs are there afterwards, over all files
 abbrev pub room_reply : ℕ → Marking → Stroke → Result Answer Errno
@@ -79,17 +70,6 @@ setlkw_reply rules v m node ask =
     at_once_unless (ask_error v.directory node ask)
     (if is_blocked rules m v.parked s mark then wait_reply rules m v.parked s mark
     else Some (room_reply rules.runs m s))
-
--- the type of a lock record: 0 is read and 1 is write
-abbrev pub type_of : Kind → ℕ
-type_of Read = 0
-type_of Write = 1
-
--- the lock that is named; if none conflicts with the one that was asked for, that one's own record with type 2,
--- unlock
-abbrev pub lock_answer : LockAsk → Option Held → Answer
-lock_answer ask None = Lock ask.start ask.end 2 ask.pid
-lock_answer ask (Some held) = Lock held.start held.end (type_of held.mark.kind) held.mark.pid
 
 -- what would keep a lock from being set; unlocking has no such test
 abbrev pub test_reply : Marking → Key → LockAsk → Option Mark → Result Answer Errno

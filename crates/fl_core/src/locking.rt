@@ -6,26 +6,19 @@ ghost use Rattle.fl_marks.specs.Marking.{stroke_on, stroked};
 ghost use Rattle.fl_marks.specs.Conflict.{IsLawful, SameElsewhere, SameOffNode};
 ghost use Rattle.fl_marks.specs.Change.{cleared, after_change, after_changes};
 ghost use Rattle.fl_waiting.specs.Circle.{is_deadlock};
-ghost use Rattle.fl_waiting.specs.LockRequest.{is_flock, key_of, start_of, end_of, mark_of};
+ghost use Rattle.fl_waiting.specs.LockRequest.{key_of, start_of, end_of};
 ghost use Rattle.fl_core.specs.Effects.{dropped, locked, unlocked};
-ghost use Rattle.fl_core.specs.Replies.{ask_error, is_malformed, type_of, lock_answer, room_reply, set_reply};
-ghost use Rattle.fl_core.specs.Replies.{setlk_reply, setlkw_reply, getlk_reply};
+ghost use Rattle.fl_core.specs.Replies.{ask_error, room_reply, set_reply, setlk_reply, setlkw_reply, getlk_reply};
 ghost use Rattle.fl_core.specs.Inside.Touched.{WaitsNow};
 ghost use Rattle.fl_waiting.specs.Waiting.{conflicts_with_held, is_blocked};
 
 use fl_circle::close_circle;
 use fl_dir::Dir;
-use fl_marks::{Class, Held, Key, Kind, LAST_BYTE, Mark, Range};
+use fl_marks::{Class, Key, Mark, Range};
 use fl_order::{Answer, Errno, LockAsk};
 use fl_ranges::Table;
+use fl_waiting::lock_request::{key_of, lock_answer, mark_of, range_of};
 use fl_waiting::{Claim, Parked, Request, Rules};
-
-// The lock types of Linux `fcntl.h`.
-const READ: u32 = 0;
-
-const WRITE: u32 = 1;
-
-const UNLOCK: u32 = 2;
 
 // FUSE_SETLK: sets or takes away a lock if its tests pass.
 pub(crate) fn set_lock(
@@ -139,7 +132,7 @@ fn is_deadlock(
 }
 
 // Whether a lock has to wait, behind all that are parked.
-fn is_blocked(
+pub(crate) fn is_blocked(
     rules: Rules,
     locks: &Table,
     parked: &Parked,
@@ -162,7 +155,12 @@ fn is_blocked(
 
 // The bytes of the range get the mark, or lose theirs: if no lock that is held conflicts with it, and if there is
 // room for the runs afterwards.
-fn change(locks: &mut Table, key: &Key, range: &Range, mark: Option<Mark>) -> Result<Answer, Errno>
+pub(crate) fn change(
+    locks: &mut Table,
+    key: &Key,
+    range: &Range,
+    mark: Option<Mark>,
+) -> Result<Answer, Errno>
     ensures reply { result ≡ set_reply locks.old.limit locks.old.marking (stroke_on key.now range.now mark) mark }
     ensures granted { OnOk result (locks.new.marking ≡ stroked (stroke_on key.now range.now mark) locks.old.marking) }
     ensures refused { OnErr result (locks.new.marking ≡ locks.old.marking) }
@@ -236,35 +234,6 @@ pub(crate) fn test_lock(
     Ok(lock_answer(ask, locks.blocker(&key, &range, mark.kind)))
 }
 
-// What a GETLK is told if this lock conflicts with it, or none.
-fn lock_answer(ask: &LockAsk, held: Option<Held>) -> Answer
-    ensures { result ≡ lock_answer ask.now held }
-{
-    match held {
-        None => Answer::Lock {
-            start: ask.start,
-            end: ask.end,
-            kind: UNLOCK,
-            pid: ask.pid,
-        },
-        Some(held) => Answer::Lock {
-            start: held.start,
-            end: held.end,
-            kind: type_of(held.mark.kind),
-            pid: held.mark.pid,
-        },
-    }
-}
-
-fn type_of(kind: Kind) -> u32
-    ensures { result ≡ type_of kind }
-{
-    match kind {
-        Kind::Read => READ,
-        Kind::Write => WRITE,
-    }
-}
-
 // The range of a lock request, by the tests that it meets whatever locks are held.
 fn asked_range(directory: &Dir, node: u64, ask: &LockAsk) -> Result<Range, Errno>
     ensures error { IfErr result (λ e. ask_error directory.now node ask.now ≡ Some e) }
@@ -275,55 +244,4 @@ fn asked_range(directory: &Dir, node: u64, ask: &LockAsk) -> Result<Range, Errno
         return Err(Errno::EBADF);
     }
     range_of(ask).ok_or(Errno::EINVAL)
-}
-
-/// The range of a lock request; none if the request is malformed.
-pub(crate) fn range_of(ask: &LockAsk) -> Option<Range>
-    ensures malformed { IsNone result ↔ (is_malformed ask.now ≡ true) }
-    ensures range { IfSome result (λ range. (range.start ≡ start_of ask.now) × (range.end ≡ end_of ask.now)) }
-{
-    if ask.flags > 1 || ask.kind > UNLOCK {
-        return None;
-    }
-    if is_flock(ask) {
-        return Some(Range::whole());
-    }
-    if ask.start > ask.end || ask.end > LAST_BYTE {
-        return None;
-    }
-    Some(Range {
-        start: ask.start,
-        end: ask.end,
-    })
-}
-
-pub(crate) fn key_of(node: u64, ask: &LockAsk) -> Key
-    ensures { result ≡ key_of node ask.now }
-{
-    Key {
-        class: if is_flock(ask) {
-            Class::Flock
-        } else {
-            Class::Record
-        },
-        node,
-        owner: ask.owner,
-    }
-}
-
-pub(crate) fn mark_of(ask: &LockAsk) -> Option<Mark>
-    ensures { result ≡ mark_of ask.now }
-{
-    let kind = match ask.kind {
-        READ => Kind::Read,
-        WRITE => Kind::Write,
-        _ => return None,
-    };
-    Some(Mark { kind, pid: ask.pid })
-}
-
-fn is_flock(ask: &LockAsk) -> bool
-    ensures { result ≡ is_flock ask.now }
-{
-    ask.flags & 1 == 1
 }

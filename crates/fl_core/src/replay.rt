@@ -8,12 +8,13 @@ ghost use Rattle.fl_order.specs.declared.told.Answer.{Answer};
 ghost use Rattle.fl_marks.specs.Change.{after_changes};
 ghost use Rattle.fl_waiting.specs.Waiting.{is_parked};
 
-use crate::locking::{key_of, mark_of, range_of, set_range};
+use crate::locking::set_range;
 use crate::parts::Parts;
 use crate::state::Core;
 use fl_counter::Tolds;
 use fl_order::{Answer, Errno, LockAsk, Op, Order};
 use fl_ranges::Table;
+use fl_waiting::lock_request::{key_of, mark_of, range_of};
 use fl_waiting::{Claim, Parked, Request, Rules};
 
 impl Core {

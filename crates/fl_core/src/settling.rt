@@ -10,11 +10,12 @@ ghost use Rattle.fl_core.specs.Settling.{granted_told, marking_granted, oldest_f
 ghost use Rattle.fl_waiting.specs.Waiting.{conflicts_with_held, AreApart};
 ghost use Rattle.fl_waiting.specs.declared.parked.Request.{Request};
 
-use crate::locking::{conflicts_with_held, key_of, set_range};
+use crate::locking::{conflicts_with_held, set_range};
 use fl_counter::Tolds;
 use fl_marks::Class;
 use fl_order::{Answer, Errno, LockAsk, Told};
 use fl_ranges::Table;
+use fl_waiting::lock_request::key_of;
 use fl_waiting::{Claim, Parked, Rules};
 
 /// Which locks may have gone, so that parked requests for them may be free.

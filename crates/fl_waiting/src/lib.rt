@@ -7,6 +7,7 @@
 
 mod claim;
 pub mod laws;
+pub mod lock_request;
 mod parked;
 mod rules;
 mod wanted;

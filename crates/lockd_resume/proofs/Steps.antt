@@ -9,10 +9,10 @@ use Rattle.std.proofs.lemmas.List.Elements.{All-append, All-cons, All-filter, Al
 use Rattle.fl_core.specs.Effects.{Effect, at_once, by_reply, cleared_on, dropped, followed_by, later, later_to, leaving}
 use Rattle.fl_core.specs.Effects.{listing_answered, listing_unanswered, locked, locks_answered, recorded, replied, request_of}
 use Rattle.fl_core.specs.Effects.{told_first, waited_for, with_waiter}
-use Rattle.fl_core.specs.Replies.{ask_error, at_once_unless, ended, ended_all, ended_by, ended_with, file_reply, is_malformed}
-use Rattle.fl_core.specs.Replies.{first_told, getlk_reply, lock_answer, own_reply, reply_to, room_reply}
+use Rattle.fl_core.specs.Replies.{ask_error, at_once_unless, ended, ended_all, ended_by, ended_with, file_reply}
+use Rattle.fl_core.specs.Replies.{first_told, getlk_reply, own_reply, reply_to, room_reply}
 use Rattle.fl_counter.specs.Tolds.{own_replies}
-use Rattle.fl_core.specs.Replies.{set_reply, taken_reply, test_reply, type_of, wait_reply}
+use Rattle.fl_core.specs.Replies.{set_reply, taken_reply, test_reply, wait_reply}
 use Rattle.fl_core.specs.Settling.{answered_first, free_behind, granted_told, marking_granted, oldest_free, settled_within}
 use Rattle.fl_core.specs.State.{Snapshot, State, View, snapshot_of}
 use Rattle.fl_core.specs.Step.{after_first, replies_in, settling}
@@ -40,7 +40,7 @@ use Rattle.fl_marks.specs.declared.lock.Key.{Key}
 use Rattle.fl_marks.specs.declared.lock.Kind.{Kind}
 use Rattle.fl_marks.specs.declared.lock.Kind.TheVariants.{Read, Write}
 use Rattle.fl_marks.specs.declared.lock.Mark.{Mark}
-use Rattle.fl_waiting.specs.LockRequest.{is_flock, key_of, mark_of, stroke_of}
+use Rattle.fl_waiting.specs.LockRequest.{is_flock, is_malformed, key_of, lock_answer, mark_of, stroke_of, type_of}
 use Rattle.fl_waiting.specs.Waiting.{is_blocked, is_parked, taken_first, taken_out, waits, conflicts_with_held}
 use Rattle.fl_waiting.specs.Circle.{is_deadlock}
 use Rattle.fl_waiting.specs.declared.parked.Request.{Request}
