@@ -1,5 +1,6 @@
 pub mod Marking
 pub mod Blocker
+pub mod Bytes
 pub mod Conflict
 pub mod Codes
 pub mod Runs

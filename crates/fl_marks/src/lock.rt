@@ -1,6 +1,7 @@
 //! Keys, marks and ranges: what a lock consists of.
 
-ghost use Rattle.std.specs.Prelude.{◌≡◌, ◌≤◌, ◌<◌, ◌^◌};
+ghost use Rattle.std.specs.Prelude.{◌≡◌, ◌≤◌, ◌<◌, ◌^◌, IfSome, is_some};
+ghost use Rattle.fl_marks.specs.Bytes.{is_range};
 
 /// Which locks meet: record locks (POSIX.1-2017 `fcntl`) with record locks, whole-file locks
 /// (Linux `flock(2)`) with whole-file locks.
@@ -65,5 +66,16 @@ impl Range {
             start: 0,
             end: LAST_BYTE,
         }
+    }
+
+    /// The bytes from one to another, both included; none if they are no range.
+    pub fn of(start: u64, end: u64) -> Option<Range>
+        ensures is { is_some result ≡ is_range start end }
+        ensures range { IfSome result (λ range. (range.start ≡ start) × (range.end ≡ end)) }
+    {
+        if start > end || end > LAST_BYTE {
+            return None;
+        }
+        Some(Range { start, end })
     }
 }

@@ -12,6 +12,7 @@ mod name;
 mod no_memory;
 mod order;
 mod refusal;
+mod state_part;
 mod told;
 
 pub use body::{Body, Shape};
@@ -21,4 +22,5 @@ pub use name::Name;
 pub use no_memory::NoMemory;
 pub use order::{LockAsk, Op, Order};
 pub use refusal::Refusal;
+pub use state_part::StatePart;
 pub use told::{Answer, Attr, Told};
