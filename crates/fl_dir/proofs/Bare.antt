@@ -17,7 +17,7 @@ use Rattle.fl_dir.proofs.Entries.{truth, found_at}
 use Rattle.fl_dir.proofs.Spread.{same_key}
 
 -- the entries without their counts
-abbrev plain : List (ℕ × Slot) → List (ℕ × Node)
+abbrev pub plain : List (ℕ × Slot) → List (ℕ × Node)
 plain es = each (λ e. (e.0, e.1.node)) es
 
 below_plain : (k : ℕ) (es : List (ℕ × Slot)) → rising.below_all nat_cmp k (plain es) ≡ rising.below_all nat_cmp k es
@@ -28,7 +28,7 @@ sorted_plain : (es : List (ℕ × Slot)) → map.is_sorted nat_cmp (plain es) �
 sorted_plain [] = refl
 sorted_plain (e ∷ es) = ap (λ b. b && map.is_sorted nat_cmp (plain es)) (below_plain e.0 es) ∙ ap (λ b. rising.below_all nat_cmp e.0 es && b) (sorted_plain es)
 
-find_plain : (q : ℕ) (es : List (ℕ × Slot)) → rising.find nat_cmp q (plain es) ≡ option_map (λ s. s.node) (rising.find nat_cmp q es)
+pub find_plain : (q : ℕ) (es : List (ℕ × Slot)) → rising.find nat_cmp q (plain es) ≡ option_map (λ s. s.node) (rising.find nat_cmp q es)
 find_plain q [] = refl
 find_plain q (e ∷ es) = go (eq_by_cmp nat_cmp q e.0) (find_plain q es)
   where

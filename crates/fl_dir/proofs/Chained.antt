@@ -1,12 +1,12 @@
 -- Changes of one chain of an arena, as changes at a number.
-use Rattle.std.proofs.Common.{◌≡◌, ◌≢◌, ℕ, zero, suc, ◌≤◌, Bool, true, false, cond, not, ◌==◌}
+use Rattle.std.proofs.Common.{◌≡◌, ◌≢◌, ℕ, zero, suc, ◌≤◌, Bool, true, false, cond, not, ◌==◌, nat_lt}
 use Rattle.std.proofs.Common.{Option, Some, None, IsSome, is_some}
 use Rattle.std.proofs.Common.{option_map, slice_get, slice_set, List, [], ◌∷◌, ◌++◌, length, refl, ap, sym, ◌∙◌, subst, arith}
 use Rattle.std.specs.Prelude.{map as each}
 use Rattle.std.proofs.lemmas.Bool.Decides.{nat_tests}
 use Rattle.std.proofs.lemmas.List.{length-map}
 use Rattle.std.proofs.lemmas.Option.{none-some, slice_get-map}
-use Rattle.std.specs.List.{find, insert, remove}
+use Rattle.std.specs.List.{find, insert, position_or_len, remove}
 use Rattle.std.specs.Ordering.{nat_cmp, eq_by_cmp}
 use Rattle.std.specs.Cmp.{nat_cmp_total}
 use Rattle.std.specs.FinMap as map
@@ -16,7 +16,7 @@ use Rattle.fl_arena.specs.Chains.{Entry, Chains, entries, items, HasSizeOf}
 use Rattle.fl_arena.specs.Cursors.{cursor_at, item_of, with_item}
 use Rattle.fl_arena.specs.declared.cursors.Cursor.{Cursor}
 use Rattle.fl_dir.specs.Inside.Spread.{at, AreSorted, IsAltered}
-use Rattle.fl_dir.proofs.Entries.{held, truth, found, set_put, remove_where, sorted_pushed}
+use Rattle.fl_dir.proofs.Entries.{held, truth, found, set_put, remove_where, sorted_pushed, insert_put}
 use Rattle.fl_dir.proofs.Spread.{some_of}
 
 some_mapped : {A B : Type 0} (f : A → B) (o : Option A) → IsSome (option_map f o) → IsSome o
@@ -91,6 +91,20 @@ module _ {X : Type 0} where
     here = λ q. ap (rising.find nat_cmp q) is ∙ rising.find-append nat_cmp nat_cmp_total (items a c) n x q (above n (omega arith));
     others = others;
   }
+
+  -- one more in its place
+  pub put_in_place : (a b : Chains (ℕ × X)) (c n : ℕ) (x : X) → AreSorted a → at a c n ≡ None → HasSizeOf a b
+      → items b c ≡ insert (items a c) (position_or_len (λ (e : ℕ × X). nat_lt n e.0) (items a c)) (n, x)
+      → ((d : ℕ) → d ≢ c → entries b d ≡ entries a d) → IsAltered a b c n (Some x)
+  put_in_place a b c n x sorted fresh size is others =
+      let put = is ∙ insert_put (items a c) n x fresh in
+      record {
+        size = size;
+        sorted = all_sorted a b c sorted
+            (ap (map.is_sorted nat_cmp) put ∙ truth _ (rising.is_sorted-put nat_cmp nat_cmp_total n x (items a c) (held _ (sorted c)))) others;
+        here = λ q. ap (rising.find nat_cmp q) put ∙ rising.find-put nat_cmp nat_cmp_total q n x (items a c);
+        others = others;
+      }
 
   replaced : (a b : Chains (ℕ × X)) (cursor : Cursor) (c n : ℕ) (x : X) → cursor ≡ cursor_at a c cursor.index
       → slice_get (items a c) cursor.index ≡ find (λ (e : ℕ × X). e.0 == n) (items a c) → IsSome (at a c n) → AreSorted a → HasSizeOf a b

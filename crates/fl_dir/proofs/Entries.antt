@@ -1,12 +1,12 @@
 -- Entries in the order of their numbers, as a list and as a finite map.
-use Rattle.std.proofs.Common.{◌≡◌, ℕ, zero, suc, ◌<◌, ◌≤◌, nat_le, Bool, true, false, cond, not, ◌==◌, T, Some}
+use Rattle.std.proofs.Common.{◌≡◌, ℕ, zero, suc, ◌+◌, ◌<◌, ◌≤◌, nat_le, nat_lt, Bool, true, false, cond, not, ◌==◌, T, Some}
 use Rattle.std.proofs.Common.{None, option_map, slice_get}
 use Rattle.std.proofs.Common.{slice_set, List, [], ◌∷◌, ◌++◌, refl, ap, sym, ◌∙◌, subst, arith}
 use Rattle.std.proofs.lemmas.Bool.Decides.{nat_tests}
 use Rattle.std.proofs.lemmas.Option.{none-some}
-use Rattle.std.specs.List.{find, remove}
+use Rattle.std.specs.List.{find, insert, position_or_len, remove}
 use Rattle.std.specs.declared.cmp.Ordering.{Ordering}
-use Rattle.std.specs.declared.cmp.Ordering.TheVariants.{Equal, Greater}
+use Rattle.std.specs.declared.cmp.Ordering.TheVariants.{Less, Equal, Greater}
 use Rattle.std.specs.Ordering.{nat_cmp, eq_by_cmp, is_eq, is_lt}
 use Rattle.std.specs.Cmp.{first_so, second_so}
 use Rattle.std.specs.FinMap as map
@@ -38,6 +38,21 @@ same_key a b e = ap (nat_cmp a) (sym e) ∙ itself a
 
 later_key : (a b : ℕ) → b < a → nat_cmp a b ≡ Greater
 later_key a b h = grind (arith, nat_tests)
+
+earlier_key : (a b : ℕ) → nat_lt a b ≡ true → nat_cmp a b ≡ Less
+earlier_key a b h = grind (arith, nat_tests)
+
+past_key : (a b : ℕ) → nat_lt a b ≡ false → eq_by_cmp nat_cmp a b ≡ false → nat_cmp a b ≡ Greater
+past_key a b h e = grind (arith, nat_tests)
+
+first_passes : {A : Type 0} (p : A → Bool) (x : A) (xs : List A) → p x ≡ true → position_or_len p (x ∷ xs) ≡ 0
+first_passes p x xs passes = ap (λ b. cond (not b) (1 + position_or_len p xs) 0) passes
+
+first_fails : {A : Type 0} (p : A → Bool) (x : A) (xs : List A) → p x ≡ false → position_or_len p (x ∷ xs) ≡ suc (position_or_len p xs)
+first_fails p x xs fails = ap (λ b. cond (not b) (1 + position_or_len p xs) 0) fails ∙ next (position_or_len p xs)
+  where
+    next : (k : ℕ) → 1 + k ≡ suc k
+    next k = omega arith
 
 module _ {X : Type 0} where
   -- the numbers of the rest of a list are above that of its first entry
@@ -102,6 +117,29 @@ module _ {X : Type 0} where
           rest true is h =
               let there : Some e.1 ≡ None = sym (ap (λ b. cond b (Some e.1) (map.find nat_cmp q es)) is) ∙ h in absurd (cc there)
           rest false is h = sym (ap (λ b. cond b (Some e.1) (map.find nat_cmp q es)) is) ∙ h
+
+  -- ---- one more in its place
+
+  -- the place of the first greater number is that of the number, if it isn't there
+  pub insert_put : (es : List (ℕ × X)) (n : ℕ) (x : X) → map.find nat_cmp n es ≡ None →
+      insert es (position_or_len (λ (e : ℕ × X). nat_lt n e.0) es) (n, x) ≡ rising.put nat_cmp n x es
+  insert_put [] n x none = refl
+  insert_put (e ∷ es) n x none = go (nat_lt n e.0) refl (eq_by_cmp nat_cmp n e.0) refl none (insert_put es n x)
+    where
+      p : (ℕ × X) → Bool
+      p f = nat_lt n f.0
+
+      go : (b : Bool) → nat_lt n e.0 ≡ b → (t : Bool) → eq_by_cmp nat_cmp n e.0 ≡ t → cond t (Some e.1) (map.find nat_cmp n es) ≡ None
+          → (map.find nat_cmp n es ≡ None → insert es (position_or_len p es) (n, x) ≡ rising.put nat_cmp n x es)
+          → insert (e ∷ es) (position_or_len p (e ∷ es)) (n, x) ≡ rising.by_order (nat_cmp n e.0) ((n, x) ∷ e ∷ es) ((e.0, x) ∷ es) (e ∷ rising.put nat_cmp n x es)
+      go b less true same gone later = absurd (none-some e.1 (sym gone))
+      go true less false same gone later =
+          ap (λ i. insert (e ∷ es) i (n, x)) (first_passes p e es less)
+          ∙ sym (ap (λ (o : Ordering). rising.by_order o ((n, x) ∷ e ∷ es) ((e.0, x) ∷ es) (e ∷ rising.put nat_cmp n x es)) (earlier_key n e.0 less))
+      go false less false same gone later =
+          ap (λ i. insert (e ∷ es) i (n, x)) (first_fails p e es less)
+          ∙ ap (λ (l : List (ℕ × X)). e ∷ l) (later gone)
+          ∙ sym (ap (λ (o : Ordering). rising.by_order o ((n, x) ∷ e ∷ es) ((e.0, x) ∷ es) (e ∷ rising.put nat_cmp n x es)) (past_key n e.0 less same))
 
   -- ---- another value under a number
 

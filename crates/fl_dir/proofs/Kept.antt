@@ -98,6 +98,21 @@ gone n names mask f k s kept there nameless closed =
         go true = is
         go false = refl
 
+-- one more node, without a name
+pub unlinked_more : (n : Numbers Slot) (names : Chains (ℕ × ℕ)) (mask : ℕ) (f : Numbers ℕ) (k : ℕ) (t : Slot) → IsKept n names mask f →
+    map.get n.values k ≡ None → link_name t.node ≡ None → t.fhs ≡ 0 → IsKept (record n { values = map.insert n.values k t }) names mask f
+unlinked_more n names mask f k t kept fresh nameless closed =
+    same_names n (record n { values = map.insert n.values k t }) names mask f f kept refl refl
+    (λ q. put_in name_in n.values k t q None nameless ∙ stays name_in q)
+    (λ q. put_in open_in n.values k t q 0 closed ∙ stays open_in q ∙ kept.counts q)
+  where
+    stays : {A : Type 0} (h : Option Slot → A) (q : ℕ) → cond (eq_by_cmp nat_cmp q k) (h None) (h (map.get n.values q)) ≡ h (map.get n.values q)
+    stays {A} h q = go (eq_by_cmp nat_cmp q k) refl
+      where
+        go : (b : Bool) → eq_by_cmp nat_cmp q k ≡ b → cond b (h None) (h (map.get n.values q)) ≡ h (map.get n.values q)
+        go true same = sym (ap h (ap (map.get n.values) (same_key q k same) ∙ fresh))
+        go false other = refl
+
 -- ---- counts
 
 pub opened : (n : Numbers Slot) (names : Chains (ℕ × ℕ)) (mask : ℕ) (f : Numbers ℕ) (k fh next : ℕ) (s t : Slot) → IsKept n names mask f
@@ -198,7 +213,7 @@ pub so_linked : (node : Node) (name : List ℕ) → node.linked ≡ true → nod
 so_linked node name linked named = λ i. cond (linked i) (Some (named i)) None
 
 -- a node that has the name in the listing has it where it is kept
-has_so : (o : Option Slot) (name : List ℕ) → has_name (option_map (λ s. s.node) o) name ≡ true → name_in o ≡ Some name
+pub has_so : (o : Option Slot) (name : List ℕ) → has_name (option_map (λ s. s.node) o) name ≡ true → name_in o ≡ Some name
 has_so None name is = absurd (cc is)
 has_so (Some s) name is = named_so s.node name is
 

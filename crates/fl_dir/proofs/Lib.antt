@@ -4,5 +4,7 @@ pub mod Counts
 pub mod Entries
 pub mod Forgets
 pub mod Kept
+pub mod Listed
 pub mod Numbers
+pub mod Restored
 pub mod Spread

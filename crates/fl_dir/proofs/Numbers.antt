@@ -1,5 +1,5 @@
 -- Numbered values on their chains.
-use Rattle.std.proofs.Common.{◌≡◌, ◌≢◌, ℕ, ◌+◌, ◌<◌, ◌≤◌, Bool, true, false, ◌||◌, nat_le, Option, Some, None, IsSome}
+use Rattle.std.proofs.Common.{◌≡◌, ◌≢◌, ◌==◌, ℕ, ◌+◌, ◌^◌, ◌<◌, ◌≤◌, Bool, true, false, not, ◌&&◌, ◌||◌, is_some, nat_le, nat_lt, Option, Some, None, IsSome}
 use Rattle.std.proofs.Common.{length, refl, ap, sym, ◌∙◌, arith}
 use Rattle.std.proofs.lemmas.Bool.Decides.{nat_tests}
 use Rattle.std.proofs.lemmas.Nat.{and_le_r}
@@ -9,7 +9,7 @@ use Rattle.std.specs.Int.Bits.{bit_and}
 use Rattle.std.specs.Ordering.{nat_cmp}
 use Rattle.std.specs.FinMap as map
 use Rattle.fl_arena.specs.Chains.{Chains, item_count}
-use Rattle.fl_dir.specs.Inside.Numbers.{Numbers, AreNumbered}
+use Rattle.fl_dir.specs.Inside.Numbers.{Numbers, AreNumbered, has_place}
 use Rattle.fl_dir.specs.Arenas.{values_on}
 use Rattle.fl_dir.specs.Inside.Spread.{at, IsAltered}
 use Rattle.fl_dir.proofs.Spread.{none_of, some_of, counted, get_only, each_altered, none_at, none_sorted, chains_made}
@@ -37,6 +37,7 @@ module _ {X : Type 0} where
       → c ≡ bit_and k mask → next ≤ next1 → ((x : X) → w ≡ Some x → k < next1) → AreNumbered b mask next1
   altered_numbers a b mask next next1 k c w kept new is more less = record {
     chains = kept.chains ∙ sym new.size.chains;
+    few = kept.few;
     sorted = new.sorted;
     home = each_altered (λ d q x. bit_and q mask ≡ d) a b c k w new kept.home (λ x e. sym is);
     below =
@@ -76,15 +77,54 @@ module _ {X : Type 0} where
       go n true is h = absurd (cc h)
       go n false is h = grind (arith, nat_tests)
 
+-- what a place says
+pub record IsPlace {X : Type 0} (n : Numbers X) (number : ℕ) : Type 0 where
+  pub below : number < n.next
+  pub fresh : map.get n.values number ≡ None
+  pub room : map.len n.values < n.limit
+
+pub is_place : {X : Type 0} (n : Numbers X) (number : ℕ) → has_place n number ≡ true → IsPlace n number
+is_place {X = X} n number is = go (nat_lt number n.next) refl (map.get n.values number) refl (nat_lt (map.len n.values) n.limit) refl is
+  where
+    lower : (a b : ℕ) → nat_lt a b ≡ true → a < b
+    lower a b h = grind (arith, nat_tests)
+
+    go : (a : Bool) → nat_lt number n.next ≡ a → (o : Option X) → map.get n.values number ≡ o → (r : Bool) → nat_lt (map.len n.values) n.limit ≡ r
+        → (a && (not (is_some o) && r)) ≡ true → IsPlace n number
+    go true below None fresh true room h = record { below = lower _ _ below; fresh = fresh; room = lower _ _ room }
+    go true below None fresh false room h = absurd (cc h)
+    go true below (Some x) fresh r room h = absurd (cc h)
+    go false below o fresh r room h = absurd (cc h)
+
+-- a number that was given and has no value has a place if a slot is free
+pub place_is : {X : Type 0} (n : Numbers X) (number free : ℕ) → number < n.next → map.get n.values number ≡ None → map.len n.values + free ≡ n.limit
+    → not (free == 0) ≡ has_place n number
+place_is {X = X} n number free below fresh total = λ i. given i && (not (is_some (sym fresh i)) && some (map.len n.values) n.limit total i)
+  where
+    lower : (a b : ℕ) → a < b → true ≡ nat_lt a b
+    lower a b h = grind (arith, nat_tests)
+
+    given : true ≡ nat_lt number n.next
+    given = lower number n.next below
+
+    some : (a b : ℕ) → a + free ≡ b → not (free == 0) ≡ nat_lt a b
+    some a b h = grind (arith, nat_tests)
+
+module _ {X : Type 0} where
+  -- if fewer values are there than there may be, there is room for an item
+  pub room_at : (a : Chains (ℕ × X)) (mask next : ℕ) → AreNumbered a mask next → map.len (values_on a) < a.slots → item_count a < a.slots
+  room_at a mask next kept few = omega (arith, as_many a mask next kept, few)
+
 -- numbers with equal values and limits
 pub same_numbers : {X : Type 0} (m n : map.FinMap nat_cmp X) (next k l : ℕ) → m ≡ n → k ≡ l
     → ◌≡◌ {A = Numbers X} (record { values = m; next = next; limit = k }) (record { values = n; next = next; limit = l })
 same_numbers m n next k l p q = λ i. record { values = p i; next = next; limit = q i }
 
 module _ {X : Type 0} where
-  pub new_numbers : (a : Chains (ℕ × X)) (n slots mask next : ℕ) → a ≡ record { chains = replicate n []; slots = slots } → mask + 1 ≡ n → AreNumbered a mask next
-  new_numbers a n slots mask next is size = record {
+  pub new_numbers : (a : Chains (ℕ × X)) (n slots mask next : ℕ) → a ≡ record { chains = replicate n []; slots = slots } → mask + 1 ≡ n → n ≤ 2 ^ 16 → AreNumbered a mask next
+  new_numbers a n slots mask next is size most = record {
     chains = size ∙ sym (chains_made a n slots is);
+    few = omega (arith, size, most);
     sorted = none_sorted a n slots is;
     home = λ c q x there. absurd (none-some x (sym (none_at a n slots is c q) ∙ there));
     below = λ c q x there. absurd (none-some x (sym (none_at a n slots is c q) ∙ there));

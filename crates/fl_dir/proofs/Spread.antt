@@ -40,7 +40,7 @@ module _ {X : Type 0} where
   abbrev chain : List (List (Entry (ℕ × X))) → ℕ → List (ℕ × X)
   chain cs d = each (λ e. e.item) (slice_index_or cs d [])
 
-  find_after : (es fs : List (ℕ × X)) (q : ℕ) → rising.find nat_cmp q (es ++ fs) ≡ option_or (rising.find nat_cmp q es) (rising.find nat_cmp q fs)
+  pub find_after : (es fs : List (ℕ × X)) (q : ℕ) → rising.find nat_cmp q (es ++ fs) ≡ option_or (rising.find nat_cmp q es) (rising.find nat_cmp q fs)
   find_after [] fs q = refl
   find_after (e ∷ es) fs q = go (eq_by_cmp nat_cmp q e.0) (find_after es fs q)
     where

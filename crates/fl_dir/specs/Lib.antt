@@ -4,6 +4,8 @@ pub mod Codes
 pub mod Directory
 pub mod Inside
 pub mod Linked
+pub mod Listed
 pub mod Naming
 pub mod OpenFiles
 pub mod Replies
+pub mod Restored

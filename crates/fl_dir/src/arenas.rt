@@ -1,6 +1,7 @@
 //! The arenas that hold a directory.
-ghost use Rattle.std.specs.Prelude.{◌≡◌};
-ghost use Rattle.fl_dir.specs.Arenas.{bare, values_on};
+ghost use Rattle.std.specs.Prelude.{◌≡◌, length};
+ghost use Rattle.fl_dir.specs.Arenas.{bare, joined, values_on};
+ghost use Rattle.fl_dir.specs.Listed.{nodes_on, IsListed};
 
 use crate::dir::Dir;
 use crate::nodes::Slot;
@@ -15,6 +16,10 @@ pub struct DirArenas<'a> {
     pub names: &'a Arena<(u64, u32)>,
     /// The node on which each fh is open, under the fh.
     pub files: &'a Arena<(u64, u64)>,
+    /// How many chains the arena of nodes has.
+    pub node_chains: usize,
+    /// How many chains the arena of open files has.
+    pub file_chains: usize,
 }
 
 impl Dir {
@@ -24,13 +29,20 @@ impl Dir {
     pub fn arenas(&self) -> DirArenas<'_>
         ensures nodes { bare (values_on result.nodes.now) ≡ self.now.nodes }
         ensures files { values_on result.files.now ≡ self.now.files }
+        ensures listed { IsListed self.now (nodes_on result.nodes.now) (joined result.files.now.chains) }
+        ensures chains { (result.node_chains ≡ length result.nodes.now.chains)
+            × (result.file_chains ≡ length result.files.now.chains) }
         ensures linked { AreLinked result }
     {
         self.names.entries.keeps_links();
+        let (nodes, node_chains) = self.nodes.arena();
+        let (files, file_chains) = self.files.arena();
         DirArenas {
-            nodes: self.nodes.arena(),
+            nodes,
             names: &self.names.entries,
-            files: self.files.arena(),
+            files,
+            node_chains,
+            file_chains,
         }
     }
 }

@@ -47,6 +47,20 @@ pub(crate) fn push<T: Copy>(entries: &mut Arena<(u64, T)>, chain: usize, number:
     };
 }
 
+// Puts an entry in its place on a chain that has none of its number.
+pub(crate) fn put<T: Copy>(entries: &mut Arena<(u64, T)>, chain: usize, number: u64, value: T)
+    requires chain { chain < length entries.old.chains }
+    requires room { item_count entries.old < entries.old.slots }
+    requires sorted { AreSorted entries.old }
+    requires fresh { at entries.old chain number ≡ None }
+    ensures { IsAltered entries.old entries.new chain number (Some value) }
+{
+    let mut place = entries.first_where(chain, |here| here.0 > number);
+    let Ok(()) = entries.insert(&mut place, (number, value)) else {
+        unreachable!()
+    };
+}
+
 // Takes the entry of a number off its chain.
 pub(crate) fn take_out<T: Copy>(entries: &mut Arena<(u64, T)>, chain: usize, number: u64)
     requires chain { chain < length entries.old.chains }

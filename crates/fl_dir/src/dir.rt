@@ -44,7 +44,7 @@ pub const MOST_OPEN: u32 = 65_536;
 
 /// Names, nodes and open files of a flat directory. Contracts see them as a `Listing`.
 ///
-/// No call but `new` takes memory. The tests of each call are made in the order of its definition, and a refusal
+/// No call but `new`, `begun_at` and `try_clone` takes memory. The tests of each call are made in the order of its definition, and a refusal
 /// changes nothing.
 pub struct Dir {
     pub(crate) nodes: Numbered<Slot>,
@@ -103,11 +103,11 @@ impl Dir {
         requires open_files { (1 ≤ open_files) × (open_files ≤ 65536) }
         ensures { IfOk result (λ d. d ≡ opening_listing files open_files) }
     {
-        Dir::starting_at(alloc, files, open_files, ROOT + 1, 1)
+        Dir::begun_at(alloc, files, open_files, ROOT + 1, 1)
     }
 
-    // The same, where the first node and the first fh get these numbers.
-    pub(crate) fn starting_at(
+    /// As `new`, but the next node and the next fh get these numbers.
+    pub fn begun_at(
         alloc: Global,
         files: u32,
         open_files: u32,

@@ -1,9 +1,9 @@
 //! The lock directory: names, nodes and open files.
 //!
 //! Each call answers by the first of its tests that fails, and a refusal changes nothing. A node is gone in the
-//! change that takes its last name, lookup or open file away. No call but `Dir::new` can be refused for memory. The
-//! tests stand inside, since they need what is private: the ends of counts and numbers, which no caller reaches soon.
-//! `tests/locks/directory.py` has the others.
+//! change that takes its last name, lookup or open file away. No call but `Dir::new`, `Dir::begun_at` and
+//! `Dir::try_clone` can be refused for memory. `fl_ranges_tests` tries the ends of counts and numbers, which no caller
+//! reaches soon, and `tests/locks/directory.py` all else.
 #![tactic(auto)]
 
 mod arenas;
@@ -15,8 +15,7 @@ mod naming;
 mod node;
 mod nodes;
 mod numbered;
-#[cfg(test)]
-mod tests;
+mod restoring;
 
 pub use arenas::DirArenas;
 pub use dir::{Closed, Dir, MOST_FILES, MOST_OPEN, ROOT};

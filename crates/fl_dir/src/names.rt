@@ -6,7 +6,7 @@ ghost use Rattle.fl_dir.specs.Directory.{is_named, is_reserved};
 ghost use Rattle.fl_dir.specs.Inside.Kept.{hash_of};
 ghost use Rattle.fl_dir.specs.Inside.Spread.{at, AreSorted, IsAltered};
 
-use crate::chain::{push, take_out};
+use crate::chain::{push, put, take_out};
 use crate::node::Node;
 use crate::numbered::{chain_of, chains_for};
 use fl_arena::Arena;
@@ -89,6 +89,21 @@ impl Names {
         let hash = hash_of(name);
         let chain = chain_of(u64::from(hash), self.mask);
         push(&mut self.entries, chain, number, hash);
+    }
+
+    /// Adds the number of a node with this name, which isn't there.
+    pub(crate) fn link_again(&mut self, name: &Name, number: u64)
+        requires chains { self.old.mask + 1 ≡ length self.old.entries.chains }
+        requires room { item_count self.old.entries < self.old.entries.slots }
+        requires sorted { AreSorted self.old.entries }
+        requires fresh { at self.old.entries (bit_and (hash_of name.now) self.old.mask) number ≡ None }
+        ensures linked { IsAltered self.old.entries self.new.entries
+            (bit_and (hash_of name.now) self.old.mask) number (Some (hash_of name.now)) }
+        ensures mask { self.new.mask ≡ self.old.mask }
+    {
+        let hash = hash_of(name);
+        let chain = chain_of(u64::from(hash), self.mask);
+        put(&mut self.entries, chain, number, hash);
     }
 
     /// Takes out the number of a node with this name.

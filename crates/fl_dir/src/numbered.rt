@@ -1,5 +1,5 @@
 //! Values under numbers that only grow.
-ghost use Rattle.std.specs.Prelude.{◌≡◌, ◌+◌, ◌≤◌, ◌^◌, ℕ, None, Some, IfOk, IsSome, false};
+ghost use Rattle.std.specs.Prelude.{◌≡◌, ◌+◌, ◌≤◌, ◌^◌, ℕ, None, Some, IfOk, IsSome, length, true, false};
 ghost use Rattle.std.specs.FinMap as map;
 ghost use Rattle.std.specs.Option.{option_copied};
 ghost use Rattle.std.specs.Borrow.{Lends, sem};
@@ -7,9 +7,9 @@ ghost use Rattle.std.specs.Int.{IsPowerOfTwo};
 ghost use Rattle.std.specs.Int.Bits.{bit_and};
 ghost use Rattle.fl_arena.specs.Chains.{IsLinked};
 ghost use Rattle.fl_dir.specs.Arenas.{values_on};
-ghost use Rattle.fl_dir.specs.Inside.Numbers.{is_full, with_value};
+ghost use Rattle.fl_dir.specs.Inside.Numbers.{has_place, is_full, with_value, IsHome};
 
-use crate::chain::{push, seek, take_out, value_at};
+use crate::chain::{push, put, seek, take_out, value_at};
 use fl_arena::Arena;
 use fl_order::NoMemory;
 use std::alloc::Global;
@@ -101,13 +101,15 @@ impl<T: Copy> Numbered<T> {
         }
     }
 
-    /// The arena that holds the values, each under its number.
-    pub(crate) fn arena(&self) -> &Arena<(u64, T)>
-        ensures values { values_on result.now ≡ self.now.values }
-        ensures linked { IsLinked result.now }
+    /// The arena that holds the values, each under its number, and how many chains it has.
+    pub(crate) fn arena(&self) -> (&Arena<(u64, T)>, usize)
+        ensures values { values_on result.0.now ≡ self.now.values }
+        ensures home { IsHome result.0.now self.now }
+        ensures chains { result.1 ≡ length result.0.now.chains }
+        ensures linked { IsLinked result.0.now }
     {
         self.entries.keeps_links();
-        &self.entries
+        (&self.entries, self.mask + 1)
     }
 
     /// Whether so many values are there as there may be, or all numbers are given.
@@ -132,6 +134,29 @@ impl<T: Copy> Numbered<T> {
         push(&mut self.entries, chain, number, value);
         self.next += 1;
         number
+    }
+
+    /// Whether a number that was given before can have a value again: it has none, and there is room.
+    pub(crate) fn has_place(&self, number: u64) -> bool
+        ensures { result ≡ has_place self.now number }
+    {
+        if number >= self.next {
+            return false;
+        }
+        match self.get(number) {
+            Some(_) => false,
+            None => self.entries.free() != 0,
+        }
+    }
+
+    /// Puts a value under a number that was given before.
+    pub(crate) fn put(&mut self, number: u64, value: T)
+        requires { has_place self.old number ≡ true }
+        ensures fresh { map.get self.old.values number ≡ None }
+        ensures after { self.new ≡ with_value self.old number value }
+    {
+        let chain = chain_of(number, self.mask);
+        put(&mut self.entries, chain, number, value);
     }
 
     /// The value of a number that has one, to be changed in place.

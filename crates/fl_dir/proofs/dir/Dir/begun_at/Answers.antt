@@ -5,7 +5,7 @@ use Rattle.fl_dir.specs.Directory.{opening_listing}
 use Rattle.fl_dir.specs.Inside.Numbers.{Numbers}
 use Rattle.fl_dir.proofs.Bare.{bare_empty}
 use Rattle.fl_dir.proofs.Kept.{seen, new_kept}
-use Rattle.fl_dir.proofs.dir.Dir.starting_at.Goals as goal
+use Rattle.fl_dir.proofs.dir.Dir.begun_at.Goals as goal
 
 pub invariant_of-result : goal.invariant_of-result
 invariant_of-result c =
