@@ -13,7 +13,8 @@ use Rattle.fl_marks.specs.declared.run.Run.{Run}
 use Rattle.fl_marks.specs.Marking.{class_number, Spot, marking_of}
 use Rattle.fl_marks.specs.Conflict.{kinds_conflict}
 use Rattle.fl_marks.specs.Blocker.{of_owner, IsConflicting, IsRunAt, IsBlocker, blocker}
-use Rattle.fl_ranges.specs.Inside.RunList.{meant, has_spot, run_at, held_at, IsWhole, AreRuns, run_conflicts}
+use Rattle.fl_ranges.specs.Inside.RunList.{has_spot, run_at, held_at, IsWhole, AreRuns, run_conflicts}
+use Rattle.fl_ranges.specs.Setting.{meant}
 use Rattle.fl_ranges.specs.Inside.Nearest.{is_nearer, nearer_of, nearest_with, nearest_from, lock_of}
 use Rattle.fl_ranges.proofs.RunLists.{IsAt, at_spot, spot_of, each_at, each_found, each_ordered, run_has, same_run}
 use Rattle.fl_ranges.proofs.Counting.{Held as HeldBy, get-runs, held_by, held_of}

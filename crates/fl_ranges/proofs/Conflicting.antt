@@ -12,7 +12,8 @@ use Rattle.fl_marks.specs.declared.lock.Mark.{Mark}
 use Rattle.fl_marks.specs.declared.run.Run.{Run}
 use Rattle.fl_marks.specs.Marking.{Spot, marking_of}
 use Rattle.fl_marks.specs.Conflict.{are_of_two_owners, kinds_conflict, mark_conflicts}
-use Rattle.fl_ranges.specs.Inside.RunList.{meant, has_spot, run_at, AreApart, run_conflicts}
+use Rattle.fl_ranges.specs.Inside.RunList.{has_spot, run_at, AreApart, run_conflicts}
+use Rattle.fl_ranges.specs.Setting.{meant}
 use Rattle.fl_ranges.proofs.Markings.{spots_total, exact_spots}
 use Rattle.fl_ranges.proofs.Entries.{any_entry, entry_passes}
 use Rattle.fl_ranges.proofs.RunLists.{at_spot, spot_of, run_has, each_found, each_ordered}

@@ -12,7 +12,8 @@ use Rattle.fl_marks.specs.declared.run.Run.{Run}
 use Rattle.fl_ranges.specs.Placing.{home}
 use Rattle.fl_marks.specs.Blocker.{of_owner}
 use Rattle.fl_ranges.specs.Inside.RunList.{run_conflicts}
-use Rattle.fl_ranges.specs.Inside.LockRows.{LockRow, LockRows, run_of, runs_of, runs_in, table_runs, AreLockRows}
+use Rattle.fl_ranges.specs.Inside.LockRows.{LockRow, LockRows, AreLockRows}
+use Rattle.fl_ranges.specs.Layout.{run_of, runs_of, runs_in, table_runs}
 use Rattle.fl_ranges.specs.Inside.Contenders.{are_kin, rows_from, class_rows, kin_owner, span_conflicts}
 use Rattle.fl_ranges.proofs.ContenderRows.{class_runs, conflicting_kin, at_kin, none_kin}
 

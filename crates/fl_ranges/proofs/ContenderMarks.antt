@@ -16,7 +16,8 @@ use Rattle.fl_marks.specs.declared.run.Run.{Run}
 use Rattle.fl_ranges.specs.Placing.{home}
 use Rattle.fl_marks.specs.Blocker.{of_owner}
 use Rattle.fl_ranges.specs.Inside.RunList.{run_conflicts}
-use Rattle.fl_ranges.specs.Inside.LockRows.{LockRow, LockRows, run_of, runs_in, table_runs, AreInOrder, AreLockRows}
+use Rattle.fl_ranges.specs.Inside.LockRows.{LockRow, LockRows, AreInOrder, AreLockRows}
+use Rattle.fl_ranges.specs.Layout.{run_of, runs_in, table_runs}
 use Rattle.fl_ranges.specs.Inside.Owners.{run_conflicts_by}
 use Rattle.fl_ranges.specs.Inside.Contenders.{are_kin, rows_from, class_rows, kin_owner, span_conflicts}
 use Rattle.fl_ranges.proofs.ContenderRows.{conflicting_kin, at_kin, later_runs}

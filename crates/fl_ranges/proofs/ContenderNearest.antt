@@ -16,7 +16,8 @@ use Rattle.fl_marks.specs.Conflict.{kinds_conflict}
 use Rattle.fl_ranges.specs.Placing.{home}
 use Rattle.fl_marks.specs.Blocker.{of_owner}
 use Rattle.fl_ranges.specs.Inside.RunList.{run_conflicts}
-use Rattle.fl_ranges.specs.Inside.LockRows.{LockRow, LockRows, run_of, runs_of, runs_in, table_runs, key_precedes}
+use Rattle.fl_ranges.specs.Inside.LockRows.{LockRow, LockRows, key_precedes}
+use Rattle.fl_ranges.specs.Layout.{run_of, runs_of, runs_in, table_runs}
 use Rattle.fl_ranges.specs.Inside.LockRows.{AreInOrder, AreLockRows}
 use Rattle.fl_ranges.specs.Inside.Nearest.{is_nearer, nearer_of, nearest_with, nearest_from}
 use Rattle.fl_ranges.specs.Inside.Contenders.{are_kin, rows_from, class_rows, kin_owner, span_conflicts}

@@ -14,7 +14,8 @@ use Rattle.fl_marks.specs.declared.run.Run.{Run}
 use Rattle.fl_ranges.specs.Placing.{home}
 use Rattle.fl_marks.specs.Blocker.{of_owner}
 use Rattle.fl_ranges.specs.Inside.RunList.{run_conflicts}
-use Rattle.fl_ranges.specs.Inside.LockRows.{LockRow, LockRows, run_of, runs_of, runs_in, table_runs, AreInOrder}
+use Rattle.fl_ranges.specs.Inside.LockRows.{LockRow, LockRows, AreInOrder}
+use Rattle.fl_ranges.specs.Layout.{run_of, runs_of, runs_in, table_runs}
 use Rattle.fl_ranges.specs.Inside.LockRows.{AreLockRows}
 use Rattle.fl_ranges.specs.Inside.Owners.{is_after, is_less, least_with, least_from}
 use Rattle.fl_ranges.specs.Inside.Contenders.{rows_from, class_rows, kin_owner, span_conflicts}

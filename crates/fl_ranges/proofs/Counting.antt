@@ -15,7 +15,8 @@ use Rattle.fl_marks.specs.declared.lock.Mark.{Mark}
 use Rattle.fl_marks.specs.declared.run.Run.{Run}
 use Rattle.fl_marks.specs.Marking.{Spot, spot_cmp, marking_of}
 use Rattle.fl_marks.specs.Runs.{runs, IsStart}
-use Rattle.fl_ranges.specs.Inside.RunList.{meant, has_spot, run_at, held_at, AreApart, IsWhole, AreRuns}
+use Rattle.fl_ranges.specs.Inside.RunList.{has_spot, run_at, held_at, AreApart, IsWhole, AreRuns}
+use Rattle.fl_ranges.specs.Setting.{meant}
 use Rattle.fl_ranges.proofs.Markings.{get-marking_of}
 use Rattle.fl_ranges.proofs.Spots.{same_spot, spot_itself}
 use Rattle.fl_ranges.proofs.Starts.{starts_counted, spots_decided}

@@ -13,7 +13,8 @@ use Rattle.fl_marks.specs.declared.lock.Key.{Key}
 use Rattle.fl_marks.specs.declared.lock.Mark.{Mark}
 use Rattle.fl_marks.specs.Marking.{class_number, key_cmp}
 use Rattle.fl_ranges.specs.Placing.{home}
-use Rattle.fl_ranges.specs.Inside.LockRows.{LockRow, run_of, runs_of, runs_in, place_cmp, key_precedes, AreInOrder}
+use Rattle.fl_ranges.specs.Inside.LockRows.{LockRow, place_cmp, key_precedes, AreInOrder}
+use Rattle.fl_ranges.specs.Layout.{run_of, runs_of, runs_in}
 use Rattle.fl_ranges.specs.Inside.LockRows.{spans_of, row_before}
 use Rattle.fl_ranges.specs.Inside.LockRows.{given_spans, AreLockRows}
 use Rattle.fl_ranges.proofs.Entries.{is_Less}

@@ -21,7 +21,8 @@ use Rattle.fl_marks.specs.declared.run.Run.{Run}
 use Rattle.fl_marks.specs.Marking.{class_number, Spot, spot_cmp, Marking, marking_of}
 use Rattle.fl_marks.specs.Runs.{is_start}
 use Rattle.fl_marks.specs.HeldRuns.{listing_cmp, starts_in_order, run_from, runs_in_order}
-use Rattle.fl_ranges.specs.Inside.RunList.{meant, AreRuns}
+use Rattle.fl_ranges.specs.Inside.RunList.{AreRuns}
+use Rattle.fl_ranges.specs.Setting.{meant}
 use Rattle.fl_ranges.proofs.Markings.{both_equal, same_class, spots_total}
 use Rattle.fl_ranges.proofs.Spots.{same_spot, spot_itself}
 use Rattle.fl_ranges.proofs.Entries.{found_above, truth}

@@ -32,3 +32,4 @@ pub mod ContenderOwners
 pub mod ContenderNearest
 pub mod ContenderConflicts
 pub mod ContenderMarks
+pub mod Setting

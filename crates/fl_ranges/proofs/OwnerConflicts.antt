@@ -12,7 +12,8 @@ use Rattle.fl_marks.specs.declared.run.Run.{Run}
 use Rattle.fl_marks.specs.Marking.{class_number, Marking, marking_of}
 use Rattle.fl_marks.specs.Conflict.{kinds_conflict, mark_conflicts_by, owner_conflicts, IsOwnerConflict, IsAfter}
 use Rattle.fl_marks.specs.Conflict.{IsAtMost, IsLeastAfter}
-use Rattle.fl_ranges.specs.Inside.RunList.{meant, run_conflicts, AreApart}
+use Rattle.fl_ranges.specs.Inside.RunList.{run_conflicts, AreApart}
+use Rattle.fl_ranges.specs.Setting.{meant}
 use Rattle.fl_ranges.specs.Inside.Owners.{is_after, is_less, least_with, least_from}
 use Rattle.fl_ranges.proofs.Markings.{spots_total, exact_spots, same_class}
 use Rattle.fl_ranges.proofs.Entries.{any_entry, entry_passes}

@@ -17,8 +17,10 @@ use Rattle.fl_marks.specs.Marking.{Spot, marking_of}
 use Rattle.fl_marks.specs.Runs.{runs}
 use Rattle.fl_ranges.specs.LockTable.{LockTable}
 use Rattle.fl_ranges.specs.Placing.{home, on_chain}
-use Rattle.fl_ranges.specs.Inside.RunList.{meant, run_at, held_at, IsWhole, AreRuns}
-use Rattle.fl_ranges.specs.Inside.LockRows.{LockRow, LockRows, run_of, runs_of, runs_in, table_runs, row_marks}
+use Rattle.fl_ranges.specs.Inside.RunList.{run_at, held_at, IsWhole, AreRuns}
+use Rattle.fl_ranges.specs.Setting.{meant}
+use Rattle.fl_ranges.specs.Inside.LockRows.{LockRow, LockRows, row_marks}
+use Rattle.fl_ranges.specs.Layout.{run_of, runs_of, runs_in, table_runs}
 use Rattle.fl_ranges.specs.Inside.LockRows.{AreOnChain, IsLockTable}
 use Rattle.fl_ranges.proofs.Each.{all_append, all_weaker}
 use Rattle.fl_ranges.proofs.Markings.{spots_total, exact_spots, get-kept_nodes}

@@ -18,8 +18,10 @@ use Rattle.fl_marks.specs.declared.run.Run.{Run}
 use Rattle.fl_marks.specs.Marking.{class_number, key_cmp, Spot, marking_of}
 use Rattle.fl_marks.specs.Runs.{runs}
 use Rattle.fl_ranges.specs.Placing.{home}
-use Rattle.fl_ranges.specs.Inside.RunList.{meant, has_spot, run_at, held_at, AreApart, IsWhole, AreRuns}
-use Rattle.fl_ranges.specs.Inside.LockRows.{LockRow, run_of, runs_of, runs_in, place_cmp, key_precedes, AreInOrder}
+use Rattle.fl_ranges.specs.Inside.RunList.{has_spot, run_at, held_at, AreApart, IsWhole, AreRuns}
+use Rattle.fl_ranges.specs.Setting.{meant}
+use Rattle.fl_ranges.specs.Inside.LockRows.{LockRow, place_cmp, key_precedes, AreInOrder}
+use Rattle.fl_ranges.specs.Layout.{run_of, runs_of, runs_in}
 use Rattle.fl_ranges.specs.Inside.LockRows.{spans_of, AreOnChain, AreLockRows}
 use Rattle.fl_ranges.proofs.Markings.{keys_total}
 use Rattle.fl_ranges.proofs.Spots.{same_key, key_itself}

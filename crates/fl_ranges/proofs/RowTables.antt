@@ -18,8 +18,9 @@ use Rattle.fl_marks.specs.declared.lock.Mark.{Mark}
 use Rattle.fl_marks.specs.Marking.{key_cmp, Spot, Marking, stroked, marking_of}
 use Rattle.fl_marks.specs.Runs.{runs}
 use Rattle.fl_ranges.specs.Placing.{home}
-use Rattle.fl_ranges.specs.Inside.RunList.{meant}
-use Rattle.fl_ranges.specs.Inside.LockRows.{LockRow, LockRows, run_of, runs_of, runs_in, table_runs, row_marks}
+use Rattle.fl_ranges.specs.Setting.{meant}
+use Rattle.fl_ranges.specs.Inside.LockRows.{LockRow, LockRows, row_marks}
+use Rattle.fl_ranges.specs.Layout.{run_of, runs_of, runs_in, table_runs}
 use Rattle.fl_ranges.specs.Inside.LockRows.{spans_of, given_spans, AreLockRows, IsLockTable}
 use Rattle.fl_ranges.proofs.Markings.{spots_total, exact_spots, get-stroked}
 use Rattle.fl_ranges.proofs.Spots.{same_key, home_less}

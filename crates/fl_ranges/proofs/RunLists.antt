@@ -6,7 +6,8 @@ use Rattle.std.specs.Option.{option_map}
 use Rattle.std.specs.Ordering.{eq_by_cmp}
 use Rattle.fl_marks.specs.declared.run.Run.{Run}
 use Rattle.fl_marks.specs.Marking.{key_cmp, Spot, mark_at}
-use Rattle.fl_ranges.specs.Inside.RunList.{meant, has_spot, run_at, held_at, AreApart}
+use Rattle.fl_ranges.specs.Inside.RunList.{has_spot, run_at, held_at, AreApart}
+use Rattle.fl_ranges.specs.Setting.{meant}
 use Rattle.fl_ranges.proofs.Spots.{same_key, key_itself, within, is_within}
 use Rattle.fl_ranges.proofs.Each.{all_weaker}
 

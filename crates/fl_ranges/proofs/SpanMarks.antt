@@ -13,7 +13,7 @@ use Rattle.fl_marks.specs.declared.lock.Mark.{Mark}
 use Rattle.fl_marks.specs.declared.run.Run.{Run}
 use Rattle.fl_marks.specs.Marking.{key_cmp, Spot}
 use Rattle.fl_ranges.specs.Inside.RunList.{has_spot, run_at, held_at, AreApart}
-use Rattle.fl_ranges.specs.Inside.LockRows.{run_of}
+use Rattle.fl_ranges.specs.Layout.{run_of}
 use Rattle.fl_ranges.proofs.RunLists.{at_spot}
 use Rattle.fl_ranges.proofs.Each.{all_weaker, all_both}
 

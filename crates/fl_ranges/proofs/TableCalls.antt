@@ -11,8 +11,10 @@ use Rattle.fl_marks.specs.Marking.{Marking, marking_of}
 use Rattle.fl_marks.specs.Runs.{runs}
 use Rattle.fl_ranges.specs.LockTable.{LockTable}
 use Rattle.fl_ranges.specs.Layout.{strokes_of, marking_in}
-use Rattle.fl_ranges.specs.Inside.RunList.{meant, AreRuns}
-use Rattle.fl_ranges.specs.Inside.LockRows.{LockRow, LockRows, run_of, runs_of, runs_in, table_runs, row_marks, AreLockRows, IsLockTable}
+use Rattle.fl_ranges.specs.Inside.RunList.{AreRuns}
+use Rattle.fl_ranges.specs.Setting.{meant}
+use Rattle.fl_ranges.specs.Inside.LockRows.{LockRow, LockRows, row_marks, AreLockRows, IsLockTable}
+use Rattle.fl_ranges.specs.Layout.{run_of, runs_of, runs_in, table_runs}
 use Rattle.fl_ranges.proofs.RowRuns.{rows_are_runs, runs_kept}
 use Rattle.fl_ranges.proofs.RowTables.{long_table}
 

@@ -1,7 +1,8 @@
 //! The lock that F_GETLK names.
 ghost use Rattle.std.specs.Prelude.{◌≡◌, ◌≤◌, ℕ, None, option_map};
 ghost use Rattle.fl_spans.specs.Rows.{rows, chain_count};
-ghost use Rattle.fl_ranges.specs.Inside.LockRows.{table_runs, AreLockRows};
+ghost use Rattle.fl_ranges.specs.Inside.LockRows.{AreLockRows};
+ghost use Rattle.fl_ranges.specs.Layout.{table_runs};
 ghost use Rattle.fl_ranges.specs.Inside.Nearest.{nearest_from, lock_of};
 
 use crate::contenders::{conflicting_span, first_of_class, owner_at};

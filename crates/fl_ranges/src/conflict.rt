@@ -3,7 +3,8 @@ ghost use Rattle.std.specs.Prelude.{◌≡◌, ◌≤◌, ℕ};
 ghost use Rattle.std.specs.List.{list_any};
 ghost use Rattle.fl_spans.specs.Rows.{rows, chain_count};
 ghost use Rattle.fl_ranges.specs.Inside.RunList.{run_conflicts};
-ghost use Rattle.fl_ranges.specs.Inside.LockRows.{table_runs, AreLockRows};
+ghost use Rattle.fl_ranges.specs.Inside.LockRows.{AreLockRows};
+ghost use Rattle.fl_ranges.specs.Layout.{table_runs};
 
 use crate::contenders::{conflicting_span, first_of_class, owner_at};
 use fl_marks::{Key, Kind, Mark, Range};

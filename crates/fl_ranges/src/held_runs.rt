@@ -3,7 +3,7 @@ ghost use Rattle.std.specs.Prelude.{◌≡◌, ◌++◌, ◌<◌, IfOk, OnOk, Is
 ghost use Rattle.fl_spans.specs.Rows.{rows, chain_count, IsRow};
 ghost use Rattle.fl_spans.specs.Row.{spans_at};
 ghost use Rattle.fl_marks.specs.HeldRuns.{listing_cmp};
-ghost use Rattle.fl_ranges.specs.Inside.LockRows.{run_of, runs_in, table_runs};
+ghost use Rattle.fl_ranges.specs.Layout.{run_of, runs_in, table_runs};
 
 use crate::table::Table;
 use fl_marks::{Key, Mark, Run};

@@ -6,7 +6,8 @@ ghost use Rattle.fl_spans.specs.Rows.{rows, chain_count, IsRow};
 ghost use Rattle.fl_spans.specs.Row.{spans_at};
 ghost use Rattle.fl_spans.specs.Spans.{AreSpans};
 ghost use Rattle.fl_marks.specs.Conflict.{AreFound};
-ghost use Rattle.fl_ranges.specs.Inside.LockRows.{table_runs, AreLockRows};
+ghost use Rattle.fl_ranges.specs.Inside.LockRows.{AreLockRows};
+ghost use Rattle.fl_ranges.specs.Layout.{table_runs};
 ghost use Rattle.fl_ranges.specs.Inside.Owners.{is_after, least_from, run_conflicts_by};
 ghost use Rattle.fl_ranges.specs.Inside.Contenders.{span_conflicts};
 

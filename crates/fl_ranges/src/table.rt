@@ -60,7 +60,8 @@ impl Table {
     ghost use Rattle.fl_marks.specs.Conflict.{conflicts, IsLawful, SameElsewhere, SameOffNode};
     ghost use Rattle.fl_marks.specs.Runs.{runs, without_node};
     ghost use Rattle.fl_ranges.specs.Placing.{home, on_chain};
-    ghost use Rattle.fl_ranges.specs.Layout.{marking_in};
+    ghost use Rattle.fl_ranges.specs.Layout.{marking_in, table_runs};
+    ghost use Rattle.fl_ranges.specs.Setting.{CanBeSet};
 
     /// A table with no locks, room for so many runs, and so many chains: the runs of nodes whose numbers have the same
     /// remainder stand on one chain. It fails only if memory runs out.
@@ -173,6 +174,7 @@ impl Table {
         ensures marking { marking_in result.now ≡ self.now.marking }
         ensures limit { limit_of result.now ≡ self.now.limit }
         ensures chains { chain_count result.now ≡ self.now.chains }
+        ensures settable { CanBeSet self.now.limit self.now.marking (table_runs result.now) }
         ensures homes { (c : ℕ) → AllByRecursion (λ r. home self.now.chains r.key.node ≡ c) (rows result.now c) }
         ensures linked { AreLinked result.now }
     {

@@ -7,7 +7,8 @@ use Rattle.fl_marks.specs.declared.lock.Mark.{Mark}
 use Rattle.fl_marks.specs.Marking.{class_number}
 use Rattle.fl_marks.specs.Blocker.{of_owner}
 use Rattle.fl_ranges.specs.Inside.RunList.{run_conflicts}
-use Rattle.fl_ranges.specs.Inside.LockRows.{LockRow, run_of}
+use Rattle.fl_ranges.specs.Inside.LockRows.{LockRow}
+use Rattle.fl_ranges.specs.Layout.{run_of}
 
 -- two keys of one class and node
 abbrev pub are_kin : Key → Key → Bool

@@ -1,17 +1,17 @@
 -- How locks stand in rows: one row of spans for each key that has a mark.
 use Rattle.std.specs.Prelude.{◌≡◌, ◌≢◌, ℕ, ◌≤◌, Bool, true, List, [], ◌∷◌, map, if◌then◌else◌}
-use Rattle.std.specs.List.{flat_map, list_any, prefix_len, AllByRecursion}
+use Rattle.std.specs.List.{list_any, prefix_len, AllByRecursion}
 use Rattle.std.specs.Ordering.{nat_cmp, ordering_then, is_lt, eq_by_cmp}
 use Rattle.std.specs.declared.cmp.Ordering.{Ordering}
-use Rattle.fl_spans.specs.Rows.{Row, RowChains, row_lists, rows, chain_count, limit_of, run_count}
+use Rattle.fl_spans.specs.Rows.{Row, RowChains, rows, chain_count, limit_of, run_count}
 use Rattle.fl_spans.specs.declared.span.Span.{Span}
 use Rattle.fl_spans.specs.Spans.{AreSpans}
 use Rattle.fl_marks.specs.declared.lock.Key.{Key}
 use Rattle.fl_marks.specs.declared.lock.Mark.{Mark}
-use Rattle.fl_marks.specs.declared.run.Run.{Run}
 use Rattle.fl_marks.specs.Marking.{class_number, key_cmp, Marking, marking_of}
 use Rattle.fl_ranges.specs.Placing.{home}
-use Rattle.fl_ranges.specs.Inside.RunList.{meant}
+use Rattle.fl_ranges.specs.Layout.{table_runs}
+use Rattle.fl_ranges.specs.Setting.{meant}
 
 -- a key with the spans of its marks
 abbrev pub LockRow : Type 0
@@ -20,22 +20,6 @@ LockRow = Row Key (Span Mark)
 -- what contracts see of all rows
 abbrev pub LockRows : Type 0
 LockRows = RowChains Key (Span Mark)
-
--- a span of a key, as a run
-abbrev pub run_of : Key → Span Mark → Run
-run_of key s = record { key = key; start = s.start; end = s.end; mark = s.mark }
-
--- the runs of a row
-abbrev pub runs_of : LockRow → List Run
-runs_of r = map (run_of r.key) r.runs
-
--- the runs of rows, one row after another
-abbrev pub runs_in : List LockRow → List Run
-runs_in rs = flat_map runs_of rs
-
--- all runs, chain after chain
-abbrev pub table_runs : LockRows → List Run
-table_runs v = flat_map runs_in (row_lists v)
 
 -- the marks that all runs give
 abbrev pub row_marks : LockRows → Marking

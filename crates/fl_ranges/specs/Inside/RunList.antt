@@ -6,12 +6,9 @@ use Rattle.fl_marks.specs.declared.lock.Key.{Key}
 use Rattle.fl_marks.specs.declared.lock.Kind.{Kind}
 use Rattle.fl_marks.specs.declared.lock.Mark.{Mark}
 use Rattle.fl_marks.specs.declared.run.Run.{Run}
-use Rattle.fl_marks.specs.Marking.{Spot, Stroke, covers}
+use Rattle.fl_marks.specs.Marking.{Spot, covers}
 use Rattle.fl_marks.specs.Conflict.{are_of_two_owners, kinds_conflict}
-
--- a run means the stroke that would set it
-abbrev pub meant : Run → Stroke
-meant r = record { key = r.key; start = r.start; end = r.end; mark = Some r.mark }
+use Rattle.fl_ranges.specs.Setting.{meant}
 
 -- the run is of the spot's key, and has its byte
 abbrev pub has_spot : Spot → Run → Bool

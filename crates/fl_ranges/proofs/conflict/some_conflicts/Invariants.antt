@@ -3,7 +3,7 @@ use Rattle.std.specs.List.{list_any}
 use Rattle.fl_spans.specs.Rows.{chain_count, rows, IsRow}
 use Rattle.fl_ranges.specs.Placing.{home}
 use Rattle.fl_ranges.specs.Inside.RunList.{run_conflicts}
-use Rattle.fl_ranges.specs.Inside.LockRows.{table_runs, runs_in}
+use Rattle.fl_ranges.specs.Layout.{table_runs, runs_in}
 use Rattle.fl_ranges.specs.Inside.Contenders.{class_rows}
 use Rattle.fl_ranges.proofs.conflict.some_conflicts.Given as goal
 

@@ -2,7 +2,7 @@ use Rattle.std.proofs.Common.{◌≡◌, ◌∙◌, ◌++◌, sym, ap, Some, Non
 use Rattle.std.specs.Option.{option_copied}
 use Rattle.fl_arena.specs.declared.cursors.Cursor.{Cursor}
 use Rattle.fl_spans.specs.Rows.{rows, keys, runs_at}
-use Rattle.fl_ranges.specs.Inside.LockRows.{runs_of}
+use Rattle.fl_ranges.specs.Layout.{runs_of}
 use Rattle.fl_ranges.proofs.Listing.{row_at, row_more, chain_done}
 use Rattle.fl_ranges.proofs.RowPlaces.{row_end}
 use Rattle.fl_ranges.proofs.held_runs.add_chain.Goals as goal

@@ -1,6 +1,6 @@
 use Rattle.std.proofs.Common.{◌≡◌, ◌-◌, ◌++◌, length, drop}
 use Rattle.fl_spans.specs.Rows.{rows, IsRow}
-use Rattle.fl_ranges.specs.Inside.LockRows.{runs_in}
+use Rattle.fl_ranges.specs.Layout.{runs_in}
 use Rattle.fl_ranges.proofs.held_runs.add_chain.Given as goal
 
 abbrev pub invariant-loop-key : goal.invariant-loop-key

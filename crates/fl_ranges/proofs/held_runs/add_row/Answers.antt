@@ -3,7 +3,7 @@ use Rattle.std.specs.Option.{option_copied}
 use Rattle.fl_arena.specs.declared.cursors.Cursor.{Cursor}
 use Rattle.fl_spans.specs.Rows.{run_cursor}
 use Rattle.fl_spans.specs.Row.{spans_at}
-use Rattle.fl_ranges.specs.Inside.LockRows.{run_of}
+use Rattle.fl_ranges.specs.Layout.{run_of}
 use Rattle.fl_ranges.proofs.Listing.{one_more, row_done}
 use Rattle.fl_ranges.proofs.held_runs.add_row.Goals as goal
 

@@ -1,7 +1,7 @@
 use Rattle.std.proofs.Common.{◌≡◌, ◌-◌, ◌++◌, length, drop, map}
 use Rattle.fl_spans.specs.Rows.{run_cursor}
 use Rattle.fl_spans.specs.Row.{spans_at}
-use Rattle.fl_ranges.specs.Inside.LockRows.{run_of}
+use Rattle.fl_ranges.specs.Layout.{run_of}
 use Rattle.fl_ranges.proofs.held_runs.add_row.Given as goal
 
 abbrev pub invariant-loop-span : goal.invariant-loop-span

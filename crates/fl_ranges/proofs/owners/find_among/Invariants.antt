@@ -2,7 +2,7 @@ use Rattle.std.proofs.Common.{◌≡◌, ◌≤◌, ◌<◌, ◌-◌, ◌||◌, 
 use Rattle.std.specs.List.{list_any}
 use Rattle.fl_spans.specs.Rows.{chain_count, rows, IsRow}
 use Rattle.fl_ranges.specs.Placing.{home}
-use Rattle.fl_ranges.specs.Inside.LockRows.{table_runs}
+use Rattle.fl_ranges.specs.Layout.{table_runs}
 use Rattle.fl_ranges.specs.Inside.Owners.{run_conflicts_by}
 use Rattle.fl_ranges.proofs.ContenderMarks.{conflicts_from}
 use Rattle.fl_ranges.proofs.owners.find_among.Given as goal

@@ -3,7 +3,7 @@ use Rattle.std.specs.List.{find}
 use Rattle.fl_arena.specs.declared.cursors.Cursor.{Cursor}
 use Rattle.fl_spans.specs.Rows.{chain_count, rows, keys, runs_at}
 use Rattle.fl_ranges.specs.Placing.{home}
-use Rattle.fl_ranges.specs.Inside.LockRows.{runs_in}
+use Rattle.fl_ranges.specs.Layout.{runs_in}
 use Rattle.fl_ranges.specs.Inside.Owners.{least_from}
 use Rattle.fl_ranges.specs.Inside.Contenders.{class_rows, kin_owner, span_conflicts}
 use Rattle.fl_ranges.proofs.ContenderRows.{kin_spans}

@@ -1,7 +1,7 @@
 use Rattle.std.proofs.Common.{◌≡◌, ◌-◌, None, length, drop}
 use Rattle.fl_spans.specs.Rows.{chain_count, rows, IsRow}
 use Rattle.fl_ranges.specs.Placing.{home}
-use Rattle.fl_ranges.specs.Inside.LockRows.{table_runs, runs_in}
+use Rattle.fl_ranges.specs.Layout.{table_runs, runs_in}
 use Rattle.fl_ranges.specs.Inside.Owners.{least_from}
 use Rattle.fl_ranges.specs.Inside.Contenders.{class_rows}
 use Rattle.fl_ranges.proofs.owners.least_after.Given as goal

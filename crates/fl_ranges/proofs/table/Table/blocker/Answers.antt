@@ -3,7 +3,7 @@ use Rattle.std.specs.Option.{option_map}
 use Rattle.fl_marks.specs.Blocker.{blocker}
 use Rattle.fl_ranges.specs.LockTable.{LockTable}
 use Rattle.fl_ranges.specs.Inside.Nearest.{lock_of}
-use Rattle.fl_ranges.specs.Inside.LockRows.{table_runs}
+use Rattle.fl_ranges.specs.Layout.{table_runs}
 use Rattle.fl_ranges.proofs.BlockersRuns.{blocker_of_runs}
 use Rattle.fl_ranges.proofs.TableCalls.{table_apart}
 use Rattle.fl_ranges.proofs.table.Table.blocker.Goals as goal

@@ -1,6 +1,6 @@
 use Rattle.std.proofs.Common.{ap}
 use Rattle.fl_ranges.specs.LockTable.{LockTable}
-use Rattle.fl_ranges.specs.Inside.LockRows.{table_runs}
+use Rattle.fl_ranges.specs.Layout.{table_runs}
 use Rattle.fl_ranges.proofs.OwnerConflicts.{least_found}
 use Rattle.fl_ranges.proofs.TableCalls.{table_apart}
 use Rattle.fl_ranges.proofs.table.Table.conflicting_owner_after.Goals as goal

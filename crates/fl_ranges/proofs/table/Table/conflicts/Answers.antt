@@ -1,7 +1,7 @@
 use Rattle.std.proofs.Common.{true, ap, ◌∙◌}
 use Rattle.fl_marks.specs.Conflict.{conflicts}
 use Rattle.fl_ranges.specs.LockTable.{LockTable}
-use Rattle.fl_ranges.specs.Inside.LockRows.{table_runs}
+use Rattle.fl_ranges.specs.Layout.{table_runs}
 use Rattle.fl_ranges.proofs.Conflicting.{runs_conflict}
 use Rattle.fl_ranges.proofs.TableCalls.{table_apart}
 use Rattle.fl_ranges.proofs.table.Table.conflicts.Goals as goal

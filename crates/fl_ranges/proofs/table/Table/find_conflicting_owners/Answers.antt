@@ -1,7 +1,7 @@
 use Rattle.std.proofs.Common.{◌||◌, ◌==◌, false, slice_index_or, ap, ◌∙◌}
 use Rattle.fl_ranges.specs.LockTable.{LockTable}
 use Rattle.fl_marks.specs.Conflict.{owner_conflicts}
-use Rattle.fl_ranges.specs.Inside.LockRows.{table_runs}
+use Rattle.fl_ranges.specs.Layout.{table_runs}
 use Rattle.fl_ranges.proofs.Conflicting.{runs_conflict}
 use Rattle.fl_ranges.proofs.TableCalls.{table_apart}
 use Rattle.fl_ranges.proofs.table.Table.find_conflicting_owners.Goals as goal

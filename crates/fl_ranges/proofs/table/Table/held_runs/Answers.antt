@@ -1,11 +1,11 @@
-use Rattle.std.proofs.Common.{rules, ◌≡◌, ◌∙◌, ap, sym, subst, List}
+use Rattle.std.proofs.Common.{rules, ◌∙◌, ap, sym, subst, List}
 use Rattle.std.proofs.lemmas.List.MinMax.{ranks_by}
 use Rattle.std.proofs.lemmas.List.Sorted.{answers_always, list_any-IsPermutation}
 use Rattle.std.specs.List.Sorted.{IsPermutation}
 use Rattle.fl_marks.specs.declared.run.Run.{Run}
 use Rattle.fl_marks.specs.HeldRuns.{runs_in_order, run_conflicts_with, ConflictAsMarks}
 use Rattle.fl_ranges.specs.LockTable.{LockTable}
-use Rattle.fl_ranges.specs.Inside.LockRows.{table_runs}
+use Rattle.fl_ranges.specs.Layout.{table_runs}
 use Rattle.fl_ranges.proofs.Conflicting.{runs_conflict}
 use Rattle.fl_ranges.proofs.Counting.{start_of}
 use Rattle.fl_ranges.proofs.HeldRuns.{listing_total, before, in_order}
