@@ -1,11 +1,13 @@
 -- The arenas that hold what is there.
-use Rattle.std.specs.Prelude.{◌≡◌, map}
-use Rattle.fl_dir.specs.Arenas.{bare, values_on}
+use Rattle.std.specs.Prelude.{◌≡◌, length, map}
+use Rattle.fl_dir.specs.Arenas.{bare, joined, values_on}
+use Rattle.fl_dir.specs.Listed.{nodes_on}
 use Rattle.fl_dir.specs.Linked as dir
-use Rattle.fl_ranges.specs.Layout.{marking_in}
+use Rattle.fl_ranges.specs.Layout.{marking_in, table_runs}
 use Rattle.fl_ranges.specs.Rows as rows
 use Rattle.fl_waiting.specs.Chains.{IsLinked, items}
 use Rattle.fl_waiting.specs.declared.claim.Claim.{Claim}
+use Rattle.fl_core.specs.Kept.{IsKept}
 use Rattle.fl_core.specs.State.{Snapshot}
 use Rattle.fl_core.specs.declared.arenas.Arenas.{Arenas}
 
@@ -15,9 +17,21 @@ pub record AreLinked (a : Arenas) : Type 0 where
   pub locks : rows.AreLinked a.locks.now
   pub parked : IsLinked a.parked.now
 
+-- how many chains the arenas have that are walked along: those of nodes and open files as many as is said, that of
+-- parked requests one
+pub record AreCounted (a : Arenas) : Type 0 where
+  pub nodes : a.directory.node_chains ≡ length a.directory.nodes.now.chains
+  pub files : a.directory.file_chains ≡ length a.directory.files.now.chains
+  pub parked : length a.parked.now.chains ≡ 1
+
 -- what stands in the arenas is what is there: nodes, open files, locks, and parked requests in the order of asking
 pub record Hold (a : Arenas) (p : Snapshot) : Type 0 where
   pub nodes : bare (values_on a.directory.nodes.now) ≡ p.view.directory.nodes
   pub files : values_on a.directory.files.now ≡ p.view.directory.files
   pub locks : marking_in a.locks.now ≡ p.marking
   pub parked : map (λ (claim : Claim). claim.request) (items a.parked.now 0) ≡ p.view.parked
+
+-- each stands there once, in some order, and all that a core keeps of them is so
+abbrev pub Keep : Arenas → Snapshot → Type 0
+Keep a p =
+    IsKept p (nodes_on a.directory.nodes.now) (joined a.directory.files.now.chains) (table_runs a.locks.now)

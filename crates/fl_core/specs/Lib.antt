@@ -3,7 +3,9 @@ pub mod Codes
 pub mod Effects
 pub mod First
 pub mod Inside
+pub mod Kept
 pub mod Replies
+pub mod Restored
 pub mod Settling
 pub mod Stages
 pub mod State

@@ -18,11 +18,13 @@ pub struct Arenas<'a> {
 }
 
 impl Core {
-    ghost use Rattle.fl_core.specs.Arenas.{AreLinked, Hold};
+    ghost use Rattle.fl_core.specs.Arenas.{AreCounted, AreLinked, Hold, Keep};
 
     /// The arenas that hold it.
     pub fn arenas(&self) -> Arenas<'_>
         ensures hold { Hold result self.now }
+        ensures kept { Keep result self.now }
+        ensures counted { AreCounted result }
         ensures linked { AreLinked result }
     {
         let parts = &self.parts;

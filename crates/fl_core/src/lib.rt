@@ -23,6 +23,7 @@ mod lock_directory;
 mod locking;
 mod parts;
 mod replay;
+mod restoring;
 mod settling;
 mod state;
 

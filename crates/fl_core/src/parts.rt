@@ -39,6 +39,7 @@ pub(crate) struct Parts {
 
 impl Model for Parts {
     ghost use Rattle.std.specs.Prelude.{◌≡◌};
+    ghost use Rattle.fl_core.specs.Kept.{IsRuled};
     ghost use Rattle.fl_core.specs.State.{Snapshot};
     ghost use Rattle.fl_core.specs.Codes.{snapshot_code};
 
@@ -53,7 +54,7 @@ impl Model for Parts {
           marking = p.locks.marking;
         } };
 
-    ghost invariant = { λ p. p.locks.limit ≡ p.rules.runs };
+    ghost invariant = { λ p. (p.locks.limit ≡ p.rules.runs) × IsRuled p.rules p.directory };
 }
 
 impl Parts {

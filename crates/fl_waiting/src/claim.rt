@@ -1,7 +1,7 @@
 //! What is kept of a parked request: the request, and the lock that it wants.
 
-ghost use Rattle.std.specs.Prelude.{◌≡◌};
-ghost use Rattle.fl_waiting.specs.LockRequest.{stroke_of};
+ghost use Rattle.std.specs.Prelude.{◌≡◌, false};
+ghost use Rattle.fl_waiting.specs.LockRequest.{is_malformed, stroke_of};
 ghost use Rattle.fl_marks.specs.Marking.{stroke_on};
 
 use crate::parked::Request;
@@ -15,5 +15,6 @@ pub struct Claim {
     pub key: Key,
     pub range: Range,
     pub mark: Option<Mark>,
+    pub ghost asked: { is_malformed request.ask ≡ false },
     pub ghost wanted: { stroke_on key range mark ≡ stroke_of request.node request.ask },
 }

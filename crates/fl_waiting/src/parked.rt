@@ -194,6 +194,7 @@ impl Parked {
     /// The arena that holds the requests, the oldest first.
     pub fn arena(&self) -> &Arena<Claim>
         ensures requests { map (λ (claim : Claim). claim.request) (items result.now 0) ≡ self.now }
+        ensures one_chain { length result.now.chains ≡ 1 }
         ensures linked { IsLinked result.now }
     {
         self.claims.keeps_links();
