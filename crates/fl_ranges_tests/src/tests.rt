@@ -1,10 +1,13 @@
-//! Tests of the arena, of rows, of spans, of the lock table and of lists of locks, by what is public of them.
+//! Tests of the arena, of rows, of spans, of the lock table, of lists of locks, of the directory and of told states, by
+//! what is public of them.
 
 mod arena;
+mod last_numbers;
 mod lists;
 mod ranges;
 mod rows;
 mod spans;
+mod states;
 
 use std::fmt::Debug;
 use std::process::Abort;

@@ -1,0 +1,6 @@
+pub mod Entries
+pub mod Parts
+pub mod Sayings
+pub mod Tellings
+pub mod Walks
+pub mod Wholes

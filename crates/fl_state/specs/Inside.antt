@@ -1,0 +1,2 @@
+-- What the walks tell. No public clause cites these modules.
+pub mod Saying
