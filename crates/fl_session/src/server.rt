@@ -17,7 +17,7 @@ use fl_desk::Desk;
 use fl_history::{Journal, Recalled, Recent};
 use fl_order::{NoMemory, Order, Told};
 use fl_transport::{Handshake, Incoming, Response};
-use fl_wire::{Batch, Frame};
+use fl_wire::{BLANK, Batch, Frame};
 use std::io::Write;
 
 /// The lock directory of a session, and how far the session is. Its lines go to a journal.
@@ -75,9 +75,12 @@ impl<J: Journal> Server<J> {
         ensures answered { IsAnswered self.old self.new (outgoing W.contents replying.old.batch)
             (outgoing W.contents replying.new.batch) frame.now }
     {
-        // By reference, so that no order is copied once more.
         match &self.handshake.receive(frame) {
-            Incoming::Order(order) => self.take(replying, order),
+            Incoming::Order(single) => {
+                let mut order = BLANK;
+                single.read(&mut order);
+                self.take(replying, &order);
+            }
             Incoming::Batch(orders) => self.take_all(replying, orders),
             Incoming::Response(response) => replying.collect(&mut self.desk, response),
         }
@@ -99,7 +102,11 @@ impl<J: Journal> Server<J> {
             (outgoing W.contents replying.new.batch) frame.now }
     {
         match &self.handshake.receive(frame) {
-            Incoming::Order(order) => self.take_again(replying, &order_under(unique, order)),
+            Incoming::Order(single) => {
+                let mut order = BLANK;
+                single.read(&mut order);
+                self.take_again(replying, &order_under(unique, &order));
+            }
             Incoming::Batch(orders) => self.take_rest(replying, orders, unique),
             Incoming::Response(response) => {
                 replying.collect(&mut self.desk, &response_under(unique, response));

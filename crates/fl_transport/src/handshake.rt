@@ -9,14 +9,14 @@ ghost use Rattle.fl_wire.specs.Layout.{opcode_of};
 ghost use Rattle.fl_wire.specs.Says.{said};
 
 use crate::response::Response;
-use fl_order::{Answer, Errno, OpKind, Order, Refusal, Told};
-use fl_wire::{Batch, Frame, InitStep, read_init, read_lock, read_order};
+use fl_order::{Answer, Errno, OpKind, Refusal, Told};
+use fl_wire::{Batch, Frame, InitStep, Single, read_init};
 
 /// What a message is to a session.
 #[derive(Drop)]
 pub enum Incoming<'a> {
     /// An order, which the lock directory answers.
-    Order(Order),
+    Order(Single<'a>),
     /// Several orders, which the lock directory takes one after another.
     Batch(Batch<'a>),
     /// An answer of the session itself.
@@ -83,22 +83,7 @@ impl Handshake {
         ensures over { self.new.over ≡ says_destroy (said frame.now) }
         ensures ends { self.new.over ≡ true → result ≡ Incoming.Response (goodbye_to frame.now) }
     {
-        match read_lock(frame) {
-            Some(order) => Incoming::Order(order),
-            None => self.receive_other(frame),
-        }
-    }
-
-    // The same, and it isn't known that the message asks for a lock. Apart, since room for names is cleared in it.
-    #[inline(never)]
-    fn receive_other<'a>(&mut self, frame: &Frame<'a>) -> Incoming<'a>
-        requires { self.old.over ≡ false }
-        ensures incoming { result ≡ incoming_by frame.now (said frame.now) }
-        ensures agreed { self.new.agreed ≡ self.old.agreed }
-        ensures over { self.new.over ≡ says_destroy (said frame.now) }
-        ensures ends { self.new.over ≡ true → result ≡ Incoming.Response (goodbye_to frame.now) }
-    {
-        match read_order(frame) {
+        match frame.single() {
             Ok(order) => Incoming::Order(order),
             Err(Refusal::Answer(e)) => Incoming::Response(Response::error(frame.unique(), e)),
             Err(Refusal::Silent) => Incoming::Response(Response::Nothing),

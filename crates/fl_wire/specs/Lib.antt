@@ -7,5 +7,6 @@ pub mod Init
 pub mod Layout
 pub mod Message
 pub mod Says
+pub mod Single
 pub mod Spell
 pub mod Stream

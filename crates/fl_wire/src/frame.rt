@@ -4,11 +4,12 @@ ghost use Rattle.std.specs.Prelude.{◌≡◌, ◌↔◌, Err, IsSome};
 ghost use Rattle.fl_wire.specs.Batch.{batch_in};
 ghost use Rattle.fl_wire.specs.Frame.{IsMessage};
 ghost use Rattle.fl_wire.specs.Layout.{opcode_of, unique_of};
-ghost use Rattle.fl_wire.specs.Message.{BatchReadsBack};
+ghost use Rattle.fl_wire.specs.Message.{BatchReadsBack, ReadsBack};
 ghost use Rattle.fl_wire.specs.Says.{said};
 
 use crate::batch::Batch;
 use crate::layout::{u32_at, u64_at};
+use crate::single::Single;
 use fl_order::Refusal;
 use std::marker::Model;
 
@@ -52,6 +53,17 @@ impl<'a> Frame<'a> {
         ensures back { BatchReadsBack self.now result }
     {
         Batch::of(self.opcode(), self.bytes)
+    }
+
+    /// The order that it says, or how it is refused: EPROTO for an INIT, ENOSYS for a kind that isn't served, EINVAL for
+    /// a body of another length than its kind's or a name that no zero byte ends, and ENAMETOOLONG for a name of more
+    /// than 255 bytes. A FORGET or BATCH_FORGET of another length has no reply, so it is refused silently. A
+    /// BATCH_FORGET with as many pairs as it says is refused as a batch, whose orders `Frame::batch` gives.
+    pub fn single(&self) -> Result<Single<'a>, Refusal>
+        ensures said { result ≡ said self.now }
+        ensures back { ReadsBack self.now result }
+    {
+        Single::of(Frame { bytes: self.bytes })
     }
 
     /// Its bytes, the header first.

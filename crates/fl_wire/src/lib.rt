@@ -15,11 +15,12 @@ mod frame;
 mod init;
 mod layout;
 mod reading;
+mod single;
 mod writing;
 
 pub use batch::Batch;
 pub use cut::{Step, next_frame};
 pub use frame::Frame;
 pub use init::{InitStep, read_init, write_init};
-pub use reading::{read_lock, read_order};
+pub use single::{BLANK, Single};
 pub use writing::write_told;

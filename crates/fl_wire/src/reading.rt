@@ -1,4 +1,4 @@
-//! The reading of a message: the order that it says, or how it is refused.
+//! The reading of an order out of a message, or how that is refused.
 
 ghost use Rattle.std.specs.Prelude.{◌≡◌, ◌+◌, ◌<◌, ◌≤◌, ◌==◌, length, IfOk, IfSome, IsErr, IsNone, IsSome, OnOk};
 ghost use Rattle.std.specs.Prelude.{Some, Ok, Err, if◌then◌else◌};
@@ -8,8 +8,8 @@ ghost use Rattle.fl_order.specs.OpKind.{kind_of_opcode, shape_for};
 ghost use Rattle.fl_order.specs.Sayable.{FitsBody, FitsLock, FitsOp, IsSayable};
 ghost use Rattle.fl_wire.specs.Body.{name_behind, name_in};
 ghost use Rattle.fl_wire.specs.Layout.{opcode_of};
-ghost use Rattle.fl_wire.specs.Message.{ReadsBack};
 ghost use Rattle.fl_wire.specs.Says.{body_in, order_of, said};
+ghost use Rattle.fl_wire.specs.Single.{fault_of};
 
 use crate::frame::Frame;
 use crate::layout::{u32_at, u64_at};
@@ -23,43 +23,8 @@ const PERMISSIONS: u32 = 0o777;
 // `FUSE_RELEASE_FLOCK_UNLOCK` of the release flags.
 const RELEASE_FLOCK_UNLOCK: u32 = 0b10;
 
-/// The order that a message says, or how it is refused: EPROTO for an INIT, ENOSYS for a kind that isn't served,
-/// EINVAL for a body of another length than its kind's or a name that no zero byte ends, and ENAMETOOLONG for a name
-/// of more than 255 bytes. A FORGET or BATCH_FORGET of another length has no reply, so it is refused silently. A
-/// BATCH_FORGET with as many pairs as it says is refused as a batch, whose orders `Frame::batch` gives.
-pub fn read_order(frame: &Frame) -> Result<Order, Refusal>
-    ensures said { result ≡ said frame.now }
-    ensures sayable { IfOk result IsSayable }
-    ensures back { ReadsBack frame.now result }
-{
-    order_in(frame)
-}
-
-/// The order that a message says, if it asks for a lock (GETLK, SETLK or SETLKW); none if it says anything else.
-/// Most messages ask for locks, and no room for a name is cleared for those.
-pub fn read_lock(frame: &Frame) -> Option<Order>
-    ensures said { IfSome result (λ order. said frame.now ≡ Ok order) }
-    ensures sayable { IfSome result IsSayable }
-    ensures lock { (kind : OpKind) → kind_of_opcode (opcode_of frame.now) ≡ Some kind →
-        IsSome result → shape_for kind ≡ Ok Shape.Lock }
-    ensures all { (kind : OpKind) → kind_of_opcode (opcode_of frame.now) ≡ Some kind →
-        shape_for kind ≡ Ok Shape.Lock → IsNone result → IsErr (said frame.now) }
-{
-    if frame.batch().is_some() {
-        return None;
-    }
-    let kind = OpKind::of_opcode(frame.opcode())?;
-    if kind.shape() != Ok(Shape::Lock) {
-        return None;
-    }
-    let ask = lock_ask(frame.as_bytes()).ok()?;
-    // The prover has to be told of the op's type.
-    let op: Op = Op::of_lock(kind, ask)?;
-    Some(order_asking(op, frame))
-}
-
 // What a message says.
-fn order_in(frame: &Frame) -> Result<Order, Refusal>
+pub(crate) fn order_in(frame: &Frame) -> Result<Order, Refusal>
     ensures said { result ≡ said frame.now }
     ensures sayable { IfOk result IsSayable }
 {
@@ -106,8 +71,27 @@ fn body_in(shape: Shape, message: &[u8]) -> Result<Body, Errno>
     }
 }
 
+// Why a message has no body of this shape, if it has none.
+pub(crate) fn fault_in(shape: Shape, message: &[u8]) -> Option<Errno>
+    ensures { result ≡ fault_of (body_in shape message.now) }
+{
+    let len = match shape {
+        Shape::Create => return name_behind(message, 16).err(),
+        Shape::Name => return name_behind(message, 0).err(),
+        Shape::Lock => 88,
+        Shape::Flush | Shape::Release => 64,
+        Shape::Getattr => 56,
+        Shape::Number | Shape::Open => 48,
+    };
+    if message.len() == len {
+        None
+    } else {
+        Some(Errno::EINVAL)
+    }
+}
+
 // A lock request.
-fn lock_ask(message: &[u8]) -> Result<LockAsk, Errno>
+pub(crate) fn lock_ask(message: &[u8]) -> Result<LockAsk, Errno>
     ensures value { result_map_both (λ ask. Body.Lock ask) (λ e. e) result ≡ body_in Shape.Lock message.now }
     ensures fits { IfOk result FitsLock }
 {

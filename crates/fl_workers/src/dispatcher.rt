@@ -4,12 +4,12 @@ ghost use Rattle.std.specs.Prelude.{◌≡◌, [], ◌∷◌, false, IfSome};
 ghost use Rattle.fl_workers.specs.Dispatched.{DispatchesMore};
 
 use crate::inline::InlineWorker;
+use crate::readable::Readable;
 use crate::sender::{SharedSender, WriterName};
 use crate::worker::flush;
 use fl_counter::{Counter, Gate};
 use fl_intake::{Intake, PutEnd};
-use fl_order::Order;
-use fl_wire::Batch;
+use fl_wire::{BLANK, Batch};
 use std::io::Write;
 use std::sync::{Mutex, Wait};
 
@@ -56,10 +56,10 @@ impl<'a, 'w, R: Wait, C: Counter, G: Gate, W: Write, N: WriterName> Dispatcher<
     }
 
     // Dispatches an order.
-    pub(crate) fn put(&mut self, order: &Order)
+    pub(crate) fn put<O: Readable>(&mut self, order: &O)
         ensures same { (self.new.put.of ≡ self.old.put.of) × (self.new.put.takers ≡ self.old.put.takers) }
         ensures dispatched { DispatchesMore C.shows self.old.put.put self.old.inline self.new.put.put self.new.inline
-            (order.now ∷ []) }
+            (O.said order.now ∷ []) }
     {
         if !self.intake.is_at_rest() {
             self.enqueue(order);
@@ -71,13 +71,16 @@ impl<'a, 'w, R: Wait, C: Counter, G: Gate, W: Write, N: WriterName> Dispatcher<
         }
     }
 
-    // Puts an order into the intake, behind the others.
-    fn enqueue(&mut self, order: &Order)
+    // Puts an order into the intake, behind the others. Apart, since room for names is cleared in it.
+    #[inline(never)]
+    fn enqueue<O: Readable>(&mut self, order: &O)
         ensures same { (self.new.put.of ≡ self.old.put.of) × (self.new.put.takers ≡ self.old.put.takers) }
         ensures dispatched { DispatchesMore C.shows self.old.put.put self.old.inline self.new.put.put self.new.inline
-            (order.now ∷ []) }
+            (O.said order.now ∷ []) }
     {
-        let Ok(()) = self.intake.put(self.rt, &mut self.put, order) else {
+        let mut place = BLANK;
+        order.read(&mut place);
+        let Ok(()) = self.intake.put(self.rt, &mut self.put, &place) else {
             unreachable!()
         };
     }

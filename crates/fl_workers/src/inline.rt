@@ -5,12 +5,13 @@ ghost use Rattle.fl_workers.specs.Dispatched.{HandlesMore};
 ghost use Rattle.fl_workers.specs.Room.{HasBatchFor};
 ghost use Rattle.fl_workers.specs.Worked.{standing};
 
+use crate::readable::Readable;
 use crate::room::BatchRoom;
 use crate::sender::{SharedSender, WriterName};
 use crate::worker::{Failures, Post, handle_all};
 use fl_counter::{Counter, Gate};
 use fl_intake::{Intake, TakeEnd};
-use fl_order::Order;
+use fl_wire::BLANK;
 use std::io::Write;
 use std::marker::Model;
 use std::sync::{Mutex, Wait};
@@ -86,15 +87,15 @@ impl<C: Counter, N: WriterName> InlineWorker<C, N> {
     }
 
     // Takes an order behind those that wait. If no more may, these are handled first.
-    pub(crate) fn take<R: Wait, G: Gate, W: Write>(
+    pub(crate) fn take<R: Wait, G: Gate, W: Write, O: Readable>(
         &mut self,
         rt: &R,
         counter: &C,
         gate: &G,
         sender: &Mutex<SharedSender<'_, W, N>>,
-        order: &Order,
+        order: &O,
     )
-        ensures { HandlesMore C.shows self.old self.new (order.now ∷ []) }
+        ensures { HandlesMore C.shows self.old self.new (O.said order.now ∷ []) }
     {
         if self.is_full() {
             self.handle(rt, counter, gate, sender);
@@ -109,12 +110,15 @@ impl<C: Counter, N: WriterName> InlineWorker<C, N> {
         self.room.batch.len() == self.room.batch.capacity()
     }
 
-    // One order more waits.
-    fn push(&mut self, order: &Order)
+    // One order more waits, which is read into its place.
+    fn push<O: Readable>(&mut self, order: &O)
         requires room { length self.old.waiting < self.old.places }
-        ensures { self.new ≡ record self.old { waiting = self.old.waiting ++ order.now ∷ [] } }
+        ensures { self.new ≡ record self.old { waiting = self.old.waiting ++ O.said order.now ∷ [] } }
     {
-        self.room.batch.push_reserved(*order);
+        let batch = &mut self.room.batch;
+        let last = batch.len();
+        batch.push_reserved(BLANK);
+        order.read(&mut batch[last]);
     }
 
     // Handles the orders that wait.

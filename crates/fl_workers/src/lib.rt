@@ -19,6 +19,7 @@ mod dispatcher;
 mod entry;
 mod inline;
 pub mod laws;
+mod readable;
 mod receiver;
 mod room;
 mod sender;

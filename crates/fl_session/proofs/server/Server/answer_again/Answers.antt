@@ -1,4 +1,4 @@
-use Rattle.std.proofs.Common.{sym, refl, map, subst, Some, ◌∷◌, [], ◌∙◌}
+use Rattle.std.proofs.Common.{ap, sym, refl, map, subst, Some, ◌∷◌, [], ◌∙◌}
 use Rattle.fl_order.specs.declared.order.Order.{Order}
 use Rattle.fl_session.proofs.MeetLemmas.{met_again, met_by_itself}
 use Rattle.fl_session.specs.Again.{order_under, response_under}
@@ -13,11 +13,11 @@ pub returns-in-Order-clause-answered : goal.returns-in-Order-clause-answered
 returns-in-Order-clause-answered g c =
     let P : Order → Type 0 = λ o. TakesAgain (record c.args.self.now { handshake = c.receive.new.self }) c.take_again.new.self
     (outgoing g.W.Write.contents c.args.replying.now.batch) (outgoing g.W.Write.contents c.take_again.new.replying.batch) o.unique (o ∷ []) in
-    let one = subst P c.order_under.ensures c.take_again.ensures.taken in
+    let one = subst P (c.order_under.ensures ∙ ap (order_under c.args.unique) c.read.ensures.is) c.take_again.ensures.taken in
     record {
       replies = one.replies;
-      met = met_again c.args.self.now c.take_again.new.self c.receive.new.self (incoming.Order c.in-Order.order) c.args.unique
-          (order_under c.args.unique c.in-Order.order ∷ []) one.replies c.args.frame.now
+      met = met_again c.args.self.now c.take_again.new.self c.receive.new.self (incoming.Order c.in-Order.single) c.args.unique
+          (order_under c.args.unique c.in-Order.single ∷ []) one.replies c.args.frame.now
           c.requires.live (sym c.receive.ensures.incoming ∙ c.in-Order.is) c.receive.ensures.advanced c.requires.again
           (λ s refused. refl) one.taken;
       collected = one.collected;

@@ -1,15 +1,20 @@
-use Rattle.std.proofs.Common.{inl, sym, refl, None, ◌∙◌}
+use Rattle.std.proofs.Common.{inl, sym, subst, refl, None, ◌∙◌}
+use Rattle.fl_order.specs.declared.order.Order.{Order}
 use Rattle.fl_session.proofs.MeetLemmas.{met_batch, met_by_itself, met_order}
+use Rattle.fl_session.specs.Inside.UnderWay.{TakesOne}
+use Rattle.fl_transport.specs.Collecting.{outgoing}
 use Rattle.fl_transport.specs.Response.{bytes_of}
 use Rattle.fl_transport.specs.declared.handshake.Incoming.TheVariants as incoming
 use Rattle.fl_session.proofs.server.Server.answer_new.Goals as goal
 
 pub returns-in-Order-clause-answered : goal.returns-in-Order-clause-answered
 returns-in-Order-clause-answered g c =
-    let one = c.take.ensures.taken in
+    let P : Order → Type 0 = λ o. TakesOne (record c.args.self.now { handshake = c.receive.new.self }) c.take.new.self
+    (outgoing g.W.Write.contents c.args.replying.now.batch) (outgoing g.W.Write.contents c.take.new.replying.batch) o in
+    let one = subst P c.read.ensures.is c.take.ensures.taken in
     record {
       replies = one.replies;
-      met = met_order c.args.self.now c.take.new.self c.receive.new.self c.in-Order.order one.replies c.args.frame.now
+      met = met_order c.args.self.now c.take.new.self c.receive.new.self c.in-Order.single one.replies c.args.frame.now
           c.requires.live (sym c.receive.ensures.incoming ∙ c.in-Order.is) c.receive.ensures.advanced c.requires.new one.taken;
       collected = one.collected;
       behind = one.behind;
