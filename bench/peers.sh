@@ -101,8 +101,7 @@ table("pairs of SETLK and unlock a second", under_way,
        for server in PEERS + LOCKD])
 table("ratio of pairs a second", under_way,
       [(f"{server} / {peer}", [f"{ratio(server, peer, window):.2f}" for window in WINDOWS])
-       for server in LOCKD for peer in PEERS]
-      + [("lockd, 4 workers / lockd, 1 worker", [f"{ratio('lockd, 4 workers', 'lockd, 1 worker', window):.2f}" for window in WINDOWS])])
+       for server in LOCKD for peer in PEERS])
 table("a round trip, 1 under way", ["p50 us", "p99 us"],
       [(server, [f"{nanos / 1000:.2f}" for nanos in BEST[server, 1][1:]]) for server in PEERS + LOCKD])
 table("ratio of a round trip", ["p50", "p99"],
