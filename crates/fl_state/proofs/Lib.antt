@@ -1,5 +1,6 @@
 pub mod Entries
 pub mod Parts
+pub mod Restorings
 pub mod Sayings
 pub mod Tellings
 pub mod Walks

@@ -1,9 +1,12 @@
 //! A part of a state that is there again.
 
-ghost use Rattle.std.specs.Prelude.{◌≡◌, true, false};
-ghost use Rattle.fl_core.specs.Restored.{fits, with_part};
+ghost use Rattle.std.specs.Prelude.{◌≡◌, ℕ, true, false, map};
+ghost use Rattle.fl_core.specs.Restored.{begun, fits, with_part};
+ghost use Rattle.fl_core.specs.State.{snapshot_of};
 ghost use Rattle.fl_marks.specs.Conflict.{IsLawful};
 ghost use Rattle.fl_state.specs.Parts.{class_of, kind_of, part_of};
+ghost use Rattle.fl_state.specs.Telling.{told_by, AreTold};
+ghost use Rattle.fl_waiting.specs.declared.rules.Rules.{Rules};
 
 use fl_core::{Core, Request};
 use fl_dir::Node;
@@ -62,6 +65,23 @@ pub fn restore(core: &mut Core, part: &StatePart) -> bool
             ask,
         }),
     }
+}
+
+/// Puts these parts back, one after another, until one doesn't fit, and says whether all did. If no part was there
+/// before, all do exactly if each fits what those before it tell, and then they tell what is there.
+pub fn restore_all(core: &mut Core, parts: &[StatePart]) -> bool
+    ensures all { (rules : Rules) (node fh : ℕ) → core.old ≡ snapshot_of (begun rules node fh) → result ≡ true →
+        AreTold rules node fh (map part_of parts.now)
+        × (core.new ≡ snapshot_of (told_by rules node fh (map part_of parts.now))) }
+    ensures some { (rules : Rules) (node fh : ℕ) → core.old ≡ snapshot_of (begun rules node fh) →
+        AreTold rules node fh (map part_of parts.now) → result ≡ true }
+{
+    for i in 0..parts.len() {
+        if !restore(core, &parts[i]) {
+            return false;
+        }
+    }
+    true
 }
 
 fn class_of(flock: bool) -> Class

@@ -4,7 +4,7 @@ ghost use Rattle.std.specs.Prelude.{◌≡◌, true, false};
 
 use fl_core::{Core, Rules};
 use fl_order::{LockAsk, Name, StatePart};
-use fl_state::{StateSink, restore, tell_state};
+use fl_state::{StateSink, restore, restore_all, tell_state};
 use std::process::Abort;
 
 // Parts that stay in memory, up to so many.
@@ -104,6 +104,11 @@ fn restored_and_told_again(rt: HostRuntime) {
     is_told(&rt, &sink.parts, 1, &file());
     is_told(&rt, &sink.parts, 2, &lock());
     is_told(&rt, &sink.parts, 3, &wait());
+    let mut again = Core::begun_at(rt.alloc(), Rules::standard(), 9, 14).expect(&rt, "memory");
+    let fit = restore_all(&mut again, &sink.parts);
+    assert!(rt; fit);
+    let twice = restore_all(&mut again, &sink.parts);
+    assert!(rt; !twice);
 }
 
 #[test]
