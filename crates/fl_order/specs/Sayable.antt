@@ -1,4 +1,4 @@
--- Which orders and replies can be said, in bytes and in text: those whose numbers fit their fields.
+-- Which orders, replies and lines of heads can be said, in bytes and in text: those whose numbers fit their fields.
 use Rattle.std.specs.Prelude.{◌<◌, ◌^◌, Result, Ok, Err}
 use Rattle.fl_order.specs.Name.{IsName}
 use Rattle.fl_order.specs.Order.{body_of}
@@ -8,6 +8,11 @@ use Rattle.fl_order.specs.declared.errno.Errno.{Errno}
 use Rattle.fl_order.specs.declared.order.Order.{Order}
 use Rattle.fl_order.specs.declared.order.LockAsk.{LockAsk}
 use Rattle.fl_order.specs.declared.order.Op.{Op}
+use Rattle.fl_order.specs.declared.state_part.Head.{Head}
+use Rattle.fl_order.specs.declared.state_part.StateLine.{StateLine}
+use Rattle.fl_order.specs.declared.state_part.StateLine.TheVariants as state
+use Rattle.fl_order.specs.declared.state_part.StatePart.{StatePart}
+use Rattle.fl_order.specs.declared.state_part.StatePart.TheVariants as part
 use Rattle.fl_order.specs.declared.told.Answer.{Answer}
 use Rattle.fl_order.specs.declared.told.Answer.TheVariants.{Done, Entry, Attr, Open, Made, Lock}
 use Rattle.fl_order.specs.declared.told.Attr.{Attr as Attributes}
@@ -73,3 +78,28 @@ FitsResult (Err e) = Unit {0}
 pub record FitsTold (told : Told) : Type 0 where
   pub unique : told.unique < 2 ^ 64
   pub result : FitsResult told.result
+
+-- the numbers of what a head begins with fit their fields
+pub record FitsHead (head : Head) : Type 0 where
+  pub lines : head.lines < 2 ^ 64
+  pub runs : head.runs < 2 ^ 32
+  pub parked : head.parked < 2 ^ 32
+  pub files : head.files < 2 ^ 32
+  pub open_files : head.open_files < 2 ^ 32
+  pub node : head.node < 2 ^ 64
+  pub fh : head.fh < 2 ^ 64
+
+-- so do those of a part
+abbrev pub FitsPart : StatePart → Type 0
+FitsPart (part.Node number lookups linked mode uid gid name) =
+    (number < 2 ^ 64) × (lookups < 2 ^ 64) × (mode < 2 ^ 32) × (uid < 2 ^ 32) × (gid < 2 ^ 32) × IsName name
+FitsPart (part.File fh node) = (fh < 2 ^ 64) × (node < 2 ^ 64)
+FitsPart (part.Lock node owner start end write pid flock) =
+    (node < 2 ^ 64) × (owner < 2 ^ 64) × (start < 2 ^ 64) × (end < 2 ^ 64) × (pid < 2 ^ 32)
+FitsPart (part.Wait unique node ask) = (unique < 2 ^ 64) × (node < 2 ^ 64) × FitsLock ask
+
+-- so do those of a line of a head
+abbrev pub FitsState : StateLine → Type 0
+FitsState (state.Head head) = FitsHead head
+FitsState (state.Part part) = FitsPart part
+FitsState state.Go = Unit {0}

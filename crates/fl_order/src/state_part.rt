@@ -1,7 +1,39 @@
-//! The parts of a state, as they are told one after another.
+//! The lines of a *head*, which tell a state: what it begins with, its parts one after another, and its end.
 
 use crate::name::Name;
 use crate::order::LockAsk;
+
+/// A line of a head. A head tells the state that a history goes on from.
+#[derive(Clone, Copy, Debug, PartialEq, Eq)]
+pub enum StateLine {
+    /// The first line.
+    Head(Head),
+    /// A part of the state.
+    Part(StatePart),
+    /// The last line: the state is whole.
+    Go,
+}
+
+/// What a head begins with: where it stands, and the rules and numbers of its state.
+#[derive(Clone, Copy, Debug, PartialEq, Eq)]
+pub struct Head {
+    /// How many lines the history before it has, without those of heads.
+    pub lines: u64,
+    /// Whether a request for a record lock also waits behind an older one that waits.
+    pub fair: bool,
+    /// The most runs of locked bytes.
+    pub runs: u32,
+    /// The most parked requests at once.
+    pub parked: u32,
+    /// The most files at once.
+    pub files: u32,
+    /// The most open files at once.
+    pub open_files: u32,
+    /// The number of the node that is made next.
+    pub node: u64,
+    /// The number of the file that is opened next.
+    pub fh: u64,
+}
 
 /// A part of a state: a file, an open file, a run of bytes with a lock, or a request that waits.
 #[derive(Clone, Copy, Debug, PartialEq, Eq)]
