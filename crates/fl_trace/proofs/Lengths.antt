@@ -3,12 +3,9 @@ use Rattle.std.proofs.Common.{ℕ, ◌+◌, ◌<◌, ◌≤◌, ◌^◌, Bool, t
 use Rattle.std.proofs.Common.{ap, arith, length-append}
 use Rattle.std.proofs.lemmas.Fmt.{length-decimal-le}
 use Rattle.std.specs.Fmt.{decimal}
-use Rattle.hex.proofs.HexLemmas.{length-encode_with}
-use Rattle.hex.specs.Hex.{lower_digits}
 use Rattle.fl_history.specs.declared.history.Line.{Line}
 use Rattle.fl_history.specs.declared.history.Line.TheVariants.{Asked, Told}
 use Rattle.fl_order.specs.Errno.{number_of}
-use Rattle.fl_order.specs.Name.{IsName}
 use Rattle.fl_order.specs.OpKind.{word_for}
 use Rattle.fl_order.specs.Order.{kind_of, body_of}
 use Rattle.fl_order.specs.Sayable.{FitsBody, FitsLock, FitsResult, FitsAttr}
@@ -20,7 +17,9 @@ use Rattle.fl_order.specs.declared.order.LockAsk.{LockAsk}
 use Rattle.fl_order.specs.declared.told.Answer.{Answer}
 use Rattle.fl_order.specs.declared.told.Answer.TheVariants.{Done, Entry, Attr, Open, Made, Lock}
 use Rattle.fl_order.specs.declared.told.Attr.{Attr as Attributes}
-use Rattle.fl_trace.specs.Text.{spaced, flag_text, name_text, line_text, LineFits}
+use Rattle.fl_trace.specs.Text.{line_text, LineFits}
+use Rattle.fl_words.specs.ReadBack.{AreReadBack}
+use Rattle.fl_words.specs.Words.{spaced, flag_text, name_text}
 use Rattle.fl_trace.proofs.LineWords.{lock_ask_words, field_words, attr_words, result_words, line_words, line_spaced}
 use Rattle.fl_trace.proofs.LineWords.{small, number_small}
 
@@ -41,10 +40,6 @@ u32_number n ws m below rest = number n ws m (small n below) rest
 nothing : length (spaced []) ≤ 0
 nothing = omega arith
 
-name_short : (name : List ℕ) → IsName name → length (name_text name) ≤ 510
-name_short [] is = omega arith
-name_short (b ∷ name) is = let few = is.short in omega (arith, few, length-encode_with lower_digits (b ∷ name))
-
 flag_short : (flag : Bool) → length (flag_text flag) ≤ 1
 flag_short true = omega arith
 flag_short false = omega arith
@@ -62,25 +57,6 @@ lock_ask_short a f =
     let w6 : List (List ℕ) = decimal a.owner ∷ w5 in
     number a.fh w6 126 f.fh (number a.owner w5 105 f.owner (number a.start w4 84 f.start (number a.end w3 63 f.end
     (u32_number a.kind w2 42 f.kind (u32_number a.pid w1 21 f.pid (u32_number a.flags [] 0 f.flags nothing))))))
-
-fields_short : (b : Body) → FitsBody b → length (spaced (field_words b)) ≤ 540
-fields_short (body.Lock ask) f = let e = lock_ask_short ask f in omega (arith, e)
-fields_short (body.Create excl mode name) f =
-    let few = f.0 in
-    let last : length (spaced (name_text name ∷ [])) ≤ 511 = word (name_text name) [] 510 0 (name_short name f.1) nothing in
-    let more : length (spaced (decimal mode ∷ name_text name ∷ [])) ≤ 21 + 511 = number mode (name_text name ∷ []) 511 (omega arith) last in
-    let e : length (spaced (flag_text excl ∷ decimal mode ∷ name_text name ∷ [])) ≤ 1 + 1 + 532 =
-    word (flag_text excl) (decimal mode ∷ name_text name ∷ []) 1 532 (flag_short excl) more in
-    omega (arith, e)
-fields_short (body.Name name) f =
-    let e : length (spaced (name_text name ∷ [])) ≤ 510 + 1 + 0 = word (name_text name) [] 510 0 (name_short name f) nothing in omega (arith, e)
-fields_short (body.Number n) f = let e = number n [] 0 f nothing in omega (arith, e)
-fields_short (body.Flush fh owner) f = let e = number fh (decimal owner ∷ []) 21 f.0 (number owner [] 0 f.1 nothing) in omega (arith, e)
-fields_short (body.Release fh unlocks owner) f =
-    let e = number fh (flag_text unlocks ∷ decimal owner ∷ []) 23 f.0 (word (flag_text unlocks) (decimal owner ∷ []) 1 21 (flag_short unlocks) (number owner [] 0 f.1 nothing)) in
-    omega (arith, e)
-fields_short body.Getattr f = omega arith
-fields_short body.Open f = omega arith
 
 attr_short : (a : Attributes) (more : List (List ℕ)) (m : ℕ) → FitsAttr a → length (spaced more) ≤ m → length (spaced (attr_words a more)) ≤ 105 + m
 attr_short a more m f rest =
@@ -114,28 +90,48 @@ result_short (Err error) f =
     let e = word (codes "err") (decimal (number_of error) ∷ []) 3 21 (omega arith) (u32_number (number_of error) [] 0 (number_small error) nothing) in
     omega (arith, e)
 
-words_short : (line : Line) → LineFits line → length (spaced (line_words line)) < 700
-words_short (Asked worker o) f =
-    let few = f.0 in
-    let s = f.1 in
-    let w1 : List (List ℕ) = word_for (kind_of o.op) ∷ field_words (body_of o.op) in
-    let w2 : List (List ℕ) = decimal o.pid ∷ w1 in
-    let w3 : List (List ℕ) = decimal o.gid ∷ w2 in
-    let w4 : List (List ℕ) = decimal o.uid ∷ w3 in
-    let w5 : List (List ℕ) = decimal o.node ∷ w4 in
-    let w6 : List (List ℕ) = decimal o.unique ∷ w5 in
-    let w7 : List (List ℕ) = decimal worker ∷ w6 in
-    let e1 : length (spaced w1) ≤ 553 =
-    word (word_for (kind_of o.op)) (field_words (body_of o.op)) 12 540 (kind_short (kind_of o.op)) (fields_short (body_of o.op) s.op) in
-    let e4 : length (spaced w4) ≤ 616 = u32_number o.uid w3 595 s.uid (u32_number o.gid w2 574 s.gid (u32_number o.pid w1 553 s.pid e1)) in
-    let e7 : length (spaced w7) ≤ 679 = number worker w6 658 (omega arith) (number o.unique w5 637 s.unique (number o.node w4 616 s.node e4)) in
-    let e : length (spaced (codes "ask" ∷ w7)) ≤ 683 = word (codes "ask") w7 3 679 (omega arith) e7 in
-    omega (arith, e)
-words_short (Told told) f =
-    let e = word (codes "tell") (decimal told.unique ∷ result_words told.result) 4 221 (omega arith)
-    (number told.unique (result_words told.result) 200 f.unique (result_short told.result f.result)) in
-    omega (arith, e)
+module _ (w : AreReadBack) where
+  fields_short : (b : Body) → FitsBody b → length (spaced (field_words b)) ≤ 540
+  fields_short (body.Lock ask) f = let e = lock_ask_short ask f in omega (arith, e)
+  fields_short (body.Create excl mode name) f =
+      let few = f.0 in
+      let last : length (spaced (name_text name ∷ [])) ≤ 511 = word (name_text name) [] 510 0 (w.name_is_short name f.1) nothing in
+      let more : length (spaced (decimal mode ∷ name_text name ∷ [])) ≤ 21 + 511 = number mode (name_text name ∷ []) 511 (omega arith) last in
+      let e : length (spaced (flag_text excl ∷ decimal mode ∷ name_text name ∷ [])) ≤ 1 + 1 + 532 =
+      word (flag_text excl) (decimal mode ∷ name_text name ∷ []) 1 532 (flag_short excl) more in
+      omega (arith, e)
+  fields_short (body.Name name) f =
+      let e : length (spaced (name_text name ∷ [])) ≤ 510 + 1 + 0 = word (name_text name) [] 510 0 (w.name_is_short name f) nothing in omega (arith, e)
+  fields_short (body.Number n) f = let e = number n [] 0 f nothing in omega (arith, e)
+  fields_short (body.Flush fh owner) f = let e = number fh (decimal owner ∷ []) 21 f.0 (number owner [] 0 f.1 nothing) in omega (arith, e)
+  fields_short (body.Release fh unlocks owner) f =
+      let e = number fh (flag_text unlocks ∷ decimal owner ∷ []) 23 f.0 (word (flag_text unlocks) (decimal owner ∷ []) 1 21 (flag_short unlocks) (number owner [] 0 f.1 nothing)) in
+      omega (arith, e)
+  fields_short body.Getattr f = omega arith
+  fields_short body.Open f = omega arith
 
--- a line's text is shorter than this
-pub line_short : (line : Line) → LineFits line → length (line_text line) < 700
-line_short line fits = let short = words_short line fits in omega (arith, short, ap length (line_spaced line))
+  words_short : (line : Line) → LineFits line → length (spaced (line_words line)) < 700
+  words_short (Asked worker o) f =
+      let few = f.0 in
+      let s = f.1 in
+      let w1 : List (List ℕ) = word_for (kind_of o.op) ∷ field_words (body_of o.op) in
+      let w2 : List (List ℕ) = decimal o.pid ∷ w1 in
+      let w3 : List (List ℕ) = decimal o.gid ∷ w2 in
+      let w4 : List (List ℕ) = decimal o.uid ∷ w3 in
+      let w5 : List (List ℕ) = decimal o.node ∷ w4 in
+      let w6 : List (List ℕ) = decimal o.unique ∷ w5 in
+      let w7 : List (List ℕ) = decimal worker ∷ w6 in
+      let e1 : length (spaced w1) ≤ 553 =
+      word (word_for (kind_of o.op)) (field_words (body_of o.op)) 12 540 (kind_short (kind_of o.op)) (fields_short (body_of o.op) s.op) in
+      let e4 : length (spaced w4) ≤ 616 = u32_number o.uid w3 595 s.uid (u32_number o.gid w2 574 s.gid (u32_number o.pid w1 553 s.pid e1)) in
+      let e7 : length (spaced w7) ≤ 679 = number worker w6 658 (omega arith) (number o.unique w5 637 s.unique (number o.node w4 616 s.node e4)) in
+      let e : length (spaced (codes "ask" ∷ w7)) ≤ 683 = word (codes "ask") w7 3 679 (omega arith) e7 in
+      omega (arith, e)
+  words_short (Told told) f =
+      let e = word (codes "tell") (decimal told.unique ∷ result_words told.result) 4 221 (omega arith)
+      (number told.unique (result_words told.result) 200 f.unique (result_short told.result f.result)) in
+      omega (arith, e)
+
+  -- a line's text is shorter than this
+  pub line_short : (line : Line) → LineFits line → length (line_text line) < 700
+  line_short line fits = let short = words_short line fits in omega (arith, short, ap length (line_spaced line))

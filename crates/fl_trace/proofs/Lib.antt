@@ -1,11 +1,7 @@
-pub mod WordLemmas
-pub mod Letters
 pub mod LineWords
 pub mod ReadBack
 pub mod OneText
 pub mod FirstWords
 pub mod Reading
 pub mod Newlines
-pub mod Numbers
-pub mod Digits
 pub mod Lengths

@@ -2,6 +2,7 @@
 use Rattle.std.proofs.Common.{◌≡◌, ℕ, ◌<◌, ◌^◌, Bool, true, false, List, [], ◌∷◌, ◌++◌, codes, Result, Ok, Err, refl}
 use Rattle.std.proofs.Common.{sym, ap, arith, append-nil}
 use Rattle.std.specs.Fmt.{decimal}
+use Rattle.std.specs.List.{AllByRecursion}
 use Rattle.fl_history.specs.declared.history.Line.{Line}
 use Rattle.fl_history.specs.declared.history.Line.TheVariants.{Asked, Told}
 use Rattle.fl_order.specs.Errno.{number_of}
@@ -17,8 +18,9 @@ use Rattle.fl_order.specs.declared.order.Order.{Order}
 use Rattle.fl_order.specs.declared.told.Answer.{Answer}
 use Rattle.fl_order.specs.declared.told.Answer.TheVariants.{Done, Entry, Attr, Open, Made, Lock}
 use Rattle.fl_order.specs.declared.told.Attr.{Attr as Attributes}
-use Rattle.fl_trace.specs.Text.{spaced, flag_text, name_text, fields_text, behind, result_text, line_text, LineFits}
-use Rattle.fl_trace.proofs.Letters.{IsWord, AreWords, all_letters, literal, decimal_word, name_word}
+use Rattle.fl_words.specs.ReadBack.{AreReadBack}
+use Rattle.fl_words.specs.Words.{spaced, flag_text, name_text, behind, IsVisible}
+use Rattle.fl_trace.specs.Text.{fields_text, result_text, line_text, LineFits}
 
 -- ---- the words
 
@@ -81,85 +83,83 @@ line_spaced (Asked worker o) =
     (body_spaced (word_for (kind_of o.op)) (body_of o.op))
 line_spaced (Told told) = ap (λ end. codes "tell" ++ 32 ∷ end) (result_spaced (decimal told.unique) told.result)
 
--- ---- they are words
+-- ---- they are words of visible characters
 
 pub small : (n : ℕ) → n < 2 ^ 32 → n < 2 ^ 64
 small n below = omega arith
 
-u32_word : (n : ℕ) → n < 2 ^ 32 → IsWord (decimal n)
-u32_word n below = decimal_word n (small n below)
+flag_word : (flag : Bool) → IsVisible (flag_text flag)
+flag_word true = refl
+flag_word false = refl
 
-lock_ask_are : (a : LockAsk) → FitsLock a → AreWords (lock_ask_words a)
-lock_ask_are a f = (
-  decimal_word a.fh f.fh,
-  (
-    decimal_word a.owner f.owner,
-    (
-      decimal_word a.start f.start,
-      (
-        decimal_word a.end f.end,
-        (u32_word a.kind f.kind, (u32_word a.pid f.pid, (u32_word a.flags f.flags, tt))),
-      ),
-    ),
-  ),
-)
-
-pub flag_word : (flag : Bool) → IsWord (flag_text flag)
-flag_word true = literal (codes "1") refl
-flag_word false = literal (codes "0") refl
-
-kind_tested : (k : OpKind) → all_letters 33 (word_for k) ≡ true
-kind_tested k = grind arith
-
-pub kind_word : (k : OpKind) → IsWord (word_for k)
-kind_word k = literal (word_for k) (kind_tested k)
-
-fields_are : (b : Body) → FitsBody b → AreWords (field_words b)
-fields_are (body.Lock ask) f = lock_ask_are ask f
-fields_are (body.Create excl mode name) f = let few = f.0 in (flag_word excl, (decimal_word mode (omega arith), (name_word name f.1.are_bytes, tt)))
-fields_are (body.Name name) f = (name_word name f.are_bytes, tt)
-fields_are (body.Number n) f = (decimal_word n f, tt)
-fields_are (body.Flush fh owner) f = (decimal_word fh f.0, (decimal_word owner f.1, tt))
-fields_are (body.Release fh unlocks owner) f = (decimal_word fh f.0, (flag_word unlocks, (decimal_word owner f.1, tt)))
-fields_are body.Getattr f = tt
-fields_are body.Open f = tt
-
-attr_are : (a : Attributes) (more : List (List ℕ)) → FitsAttr a → AreWords more → AreWords (attr_words a more)
-attr_are a more f are = (decimal_word a.node f.node, (u32_word a.mode f.mode, (u32_word a.nlink f.nlink, (u32_word a.uid f.uid, (u32_word a.gid f.gid, are)))))
+kind_word : (k : OpKind) → IsVisible (word_for k)
+kind_word k = grind arith
 
 pub number_small : (e : Errno) → number_of e < 2 ^ 32
 number_small e = grind arith
 
-result_are : (told : Result Answer Errno) → FitsResult told → AreWords (result_words told)
-result_are (Ok Done) f = (literal (codes "ok") refl, tt)
-result_are (Ok (Entry a)) f = (literal (codes "entry") refl, attr_are a [] f tt)
-result_are (Ok (Attr a)) f = (literal (codes "attr") refl, attr_are a [] f tt)
-result_are (Ok (Open fh)) f = (literal (codes "open") refl, (decimal_word fh f, tt))
-result_are (Ok (Made a fh)) f = (literal (codes "made") refl, attr_are a (decimal fh ∷ []) f.0 (decimal_word fh f.1, tt))
-result_are (Ok (Lock start end kind pid)) f =
-    (literal (codes "lock") refl, (decimal_word start f.0, (decimal_word end f.1, (u32_word kind f.2, (u32_word pid f.3, tt)))))
-result_are (Err error) f = (literal (codes "err") refl, (u32_word (number_of error) (number_small error), tt))
+module _ (w : AreReadBack) where
+  u32_word : (n : ℕ) → n < 2 ^ 32 → IsVisible (decimal n)
+  u32_word n below = w.number_is_visible n (small n below)
 
-pub line_are : (line : Line) → LineFits line → AreWords (line_words line)
-line_are (Asked worker o) f =
-    let few = f.0 in
-    let s = f.1 in (
-      literal (codes "ask") refl,
+  lock_ask_are : (a : LockAsk) → FitsLock a → AllByRecursion IsVisible (lock_ask_words a)
+  lock_ask_are a f = (
+    w.number_is_visible a.fh f.fh,
+    (
+      w.number_is_visible a.owner f.owner,
       (
-        decimal_word worker (omega arith),
+        w.number_is_visible a.start f.start,
         (
-          decimal_word o.unique s.unique,
+          w.number_is_visible a.end f.end,
+          (u32_word a.kind f.kind, (u32_word a.pid f.pid, (u32_word a.flags f.flags, tt))),
+        ),
+      ),
+    ),
+  )
+
+  fields_are : (b : Body) → FitsBody b → AllByRecursion IsVisible (field_words b)
+  fields_are (body.Lock ask) f = lock_ask_are ask f
+  fields_are (body.Create excl mode name) f = let few = f.0 in (flag_word excl, (w.number_is_visible mode (omega arith), (w.name_is_visible name f.1, tt)))
+  fields_are (body.Name name) f = (w.name_is_visible name f, tt)
+  fields_are (body.Number n) f = (w.number_is_visible n f, tt)
+  fields_are (body.Flush fh owner) f = (w.number_is_visible fh f.0, (w.number_is_visible owner f.1, tt))
+  fields_are (body.Release fh unlocks owner) f = (w.number_is_visible fh f.0, (flag_word unlocks, (w.number_is_visible owner f.1, tt)))
+  fields_are body.Getattr f = tt
+  fields_are body.Open f = tt
+
+  attr_are : (a : Attributes) (more : List (List ℕ)) → FitsAttr a → AllByRecursion IsVisible more → AllByRecursion IsVisible (attr_words a more)
+  attr_are a more f are = (w.number_is_visible a.node f.node, (u32_word a.mode f.mode, (u32_word a.nlink f.nlink, (u32_word a.uid f.uid, (u32_word a.gid f.gid, are)))))
+
+  result_are : (told : Result Answer Errno) → FitsResult told → AllByRecursion IsVisible (result_words told)
+  result_are (Ok Done) f = (refl, tt)
+  result_are (Ok (Entry a)) f = (refl, attr_are a [] f tt)
+  result_are (Ok (Attr a)) f = (refl, attr_are a [] f tt)
+  result_are (Ok (Open fh)) f = (refl, (w.number_is_visible fh f, tt))
+  result_are (Ok (Made a fh)) f = (refl, attr_are a (decimal fh ∷ []) f.0 (w.number_is_visible fh f.1, tt))
+  result_are (Ok (Lock start end kind pid)) f =
+      (refl, (w.number_is_visible start f.0, (w.number_is_visible end f.1, (u32_word kind f.2, (u32_word pid f.3, tt)))))
+  result_are (Err error) f = (refl, (u32_word (number_of error) (number_small error), tt))
+
+  pub line_are : (line : Line) → LineFits line → AllByRecursion IsVisible (line_words line)
+  line_are (Asked worker o) f =
+      let few = f.0 in
+      let s = f.1 in (
+        refl,
+        (
+          w.number_is_visible worker (omega arith),
           (
-            decimal_word o.node s.node,
+            w.number_is_visible o.unique s.unique,
             (
-              u32_word o.uid s.uid,
+              w.number_is_visible o.node s.node,
               (
-                u32_word o.gid s.gid,
-                (u32_word o.pid s.pid, (kind_word (kind_of o.op), fields_are (body_of o.op) s.op)),
+                u32_word o.uid s.uid,
+                (
+                  u32_word o.gid s.gid,
+                  (u32_word o.pid s.pid, (kind_word (kind_of o.op), fields_are (body_of o.op) s.op)),
+                ),
               ),
             ),
           ),
         ),
-      ),
-    )
-line_are (Told told) f = (literal (codes "tell") refl, (decimal_word told.unique f.unique, result_are told.result f.result))
+      )
+  line_are (Told told) f = (refl, (w.number_is_visible told.unique f.unique, result_are told.result f.result))

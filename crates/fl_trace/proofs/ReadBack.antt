@@ -1,18 +1,12 @@
 -- A line is found again in its text: its words are what stands between spaces, and each field is read off its word.
 use Rattle.std.proofs.Common.{◌≡◌, ℕ, ◌<◌, ◌^◌, ◌==◌, Bool, true, false, if◌then◌else◌, Option, None, Some, List, []}
-use Rattle.std.proofs.Common.{◌∷◌, get_or, drop, codes}
-use Rattle.std.proofs.Common.{Result, Ok, Err, refl, sym, ap, ◌∙◌, arith, lit<}
-use Rattle.std.proofs.Math.Dec.{eqb}
-use Rattle.std.proofs.lemmas.Fmt.{digits_value-decimal}
-use Rattle.std.proofs.lemmas.List.Splits.{slice_split_at, slice_split_none}
+use Rattle.std.proofs.Common.{◌∷◌, length, get_or, drop, codes}
+use Rattle.std.proofs.Common.{Result, Ok, Err, refl, sym, ap, ◌∙◌, arith}
 use Rattle.std.specs.Fmt.{decimal}
-use Rattle.std.specs.List.{find, slice_split}
+use Rattle.std.specs.List.{find}
 use Rattle.std.specs.Option.{unwrap_or}
-use Rattle.std.specs.Result.{result_unwrap_or}
-use Rattle.std.specs.Str.{bytes_eq}
-use Rattle.std.specs.Str.Parse.{digits_value}
-use Rattle.hex.specs.Hex.{IsBytes, decode_of}
-use Rattle.hex.proofs.HexLemmas.{decode_of-encode_lower}
+use Rattle.std.specs.Str.{IsUtf8, bytes_eq}
+use Rattle.std.specs.Str.Iter.{LacksByte}
 use Rattle.fl_history.specs.declared.history.Line.{Line}
 use Rattle.fl_history.specs.declared.history.Line.TheVariants.{Asked, Told}
 use Rattle.fl_order.specs.Errno.{number_of}
@@ -37,10 +31,10 @@ use Rattle.fl_order.specs.declared.order.Order.{Order}
 use Rattle.fl_order.specs.declared.told.Answer.{Answer}
 use Rattle.fl_order.specs.declared.told.Answer.TheVariants.{Done, Entry, Attr, Open, Made, Lock}
 use Rattle.fl_order.specs.declared.told.Attr.{Attr as Attributes}
-use Rattle.fl_trace.specs.Text.{spaced, flag_text, name_text, line_text, LineFits}
-use Rattle.fl_trace.proofs.Letters.{AreWords, AreLetters, no_low, spaced_letters}
-use Rattle.fl_trace.proofs.WordLemmas.{own}
-use Rattle.fl_trace.proofs.LineWords.{lock_ask_words, field_words, attr_words, result_words, order_words, line_words}
+use Rattle.fl_trace.specs.Text.{line_text, LineFits}
+use Rattle.fl_words.specs.ReadBack.{AreReadBack, words_of, number_of_word, name_of_word}
+use Rattle.fl_words.specs.Words.{flag_text}
+use Rattle.fl_trace.proofs.LineWords.{lock_ask_words, field_words, attr_words, result_words, line_words}
 use Rattle.fl_trace.proofs.LineWords.{line_spaced, small}
 use Rattle.fl_trace.proofs.LineWords.{number_small, line_are}
 
@@ -50,10 +44,7 @@ abbrev pub word_at : List (List ℕ) → ℕ → List ℕ
 word_at words k = get_or words k []
 
 abbrev pub number_at : List (List ℕ) → ℕ → ℕ
-number_at words k = digits_value 10 (word_at words k)
-
-abbrev pub name_of : List ℕ → List ℕ
-name_of word = result_unwrap_or (decode_of word) []
+number_at words k = number_of_word (word_at words k)
 
 abbrev pub lock_ask_of : List (List ℕ) → LockAsk
 lock_ask_of ws = record {
@@ -67,8 +58,8 @@ lock_ask_of ws = record {
 }
 
 abbrev pub body_of_words : Result Shape Refusal → List (List ℕ) → Body
-body_of_words (Ok shape.Create) ws = body.Create (bytes_eq (word_at ws 0) (codes "1")) (number_at ws 1) (name_of (word_at ws 2))
-body_of_words (Ok shape.Name) ws = body.Name (name_of (word_at ws 0))
+body_of_words (Ok shape.Create) ws = body.Create (bytes_eq (word_at ws 0) (codes "1")) (number_at ws 1) (name_of_word (word_at ws 2))
+body_of_words (Ok shape.Name) ws = body.Name (name_of_word (word_at ws 0))
 body_of_words (Ok shape.Number) ws = body.Number (number_at ws 0)
 body_of_words (Ok shape.Flush) ws = body.Flush (number_at ws 0) (number_at ws 1)
 body_of_words (Ok shape.Release) ws = body.Release (number_at ws 0) (bytes_eq (word_at ws 1) (codes "1")) (number_at ws 2)
@@ -117,40 +108,13 @@ line_of_words ws =
     if bytes_eq (word_at ws 0) (codes "ask") then Asked (number_at ws 1) (order_of ws)
     else Told (record { unique = number_at ws 1; result = result_of (drop 2 ws) })
 
-value : (n : ℕ) → n < 2 ^ 64 → digits_value 10 (decimal n) ≡ n
-value n below = digits_value-decimal own n below
-
-value32 : (n : ℕ) → n < 2 ^ 32 → digits_value 10 (decimal n) ≡ n
-value32 n below = value n (small n below)
-
-lock_ask_back : (a : LockAsk) → FitsLock a → lock_ask_of (lock_ask_words a) ≡ a
-lock_ask_back a f = λ i. record {
-  fh = value a.fh f.fh i;
-  owner = value a.owner f.owner i;
-  start = value a.start f.start i;
-  end = value a.end f.end i;
-  kind = value32 a.kind f.kind i;
-  pid = value32 a.pid f.pid i;
-  flags = value32 a.flags f.flags i;
-}
+-- the line that a text is of
+abbrev pub line_in : List ℕ → Line
+line_in text = line_of_words (words_of text)
 
 flag_back : (flag : Bool) → bytes_eq (flag_text flag) (codes "1") ≡ flag
 flag_back true = refl
 flag_back false = refl
-
-name_back : (name : List ℕ) → IsBytes name → name_of (name_text name) ≡ name
-name_back [] bytes = refl
-name_back (b ∷ name) bytes = ap (λ r. result_unwrap_or r []) (decode_of-encode_lower (b ∷ name) bytes)
-
-body_back : (b : Body) → FitsBody b → body_of_words (Ok (body_shape b)) (field_words b) ≡ b
-body_back (body.Lock ask) f = λ i. body.Lock (lock_ask_back ask f i)
-body_back (body.Create excl mode name) f = let few = f.0 in λ i. body.Create (flag_back excl i) (value mode (omega arith) i) (name_back name f.1.are_bytes i)
-body_back (body.Name name) f = λ i. body.Name (name_back name f.are_bytes i)
-body_back (body.Number n) f = λ i. body.Number (value n f i)
-body_back (body.Flush fh owner) f = λ i. body.Flush (value fh f.0 i) (value owner f.1 i)
-body_back (body.Release fh unlocks owner) f = λ i. body.Release (value fh f.0 i) (flag_back unlocks i) (value owner f.1 i)
-body_back body.Getattr f = refl
-body_back body.Open f = refl
 
 kind_found : (k : OpKind) → kind_of_word (word_for k) ≡ Some k
 kind_found k = grind arith
@@ -162,22 +126,6 @@ shape_made op = grind arith
 op_made : (op : Op) → op_of (kind_of op) (body_of op) ≡ Some op
 op_made op = grind arith
 
-op_back : (op : Op) → FitsOp op → op_of_words (kind_of_word (word_for (kind_of op))) (field_words (body_of op)) ≡ Some op
-op_back op f =
-    ap (λ found. op_of_words found (field_words (body_of op))) (kind_found (kind_of op))
-    ∙ ap (λ s. op_of (kind_of op) (body_of_words s (field_words (body_of op)))) (shape_made op)
-    ∙ ap (op_of (kind_of op)) (body_back (body_of op) f)
-    ∙ op_made op
-
-attr_back : (word : List ℕ) (a : Attributes) (more : List (List ℕ)) → FitsAttr a → attr_of (word ∷ attr_words a more) ≡ a
-attr_back word a more f = λ i. record {
-  node = value a.node f.node i;
-  mode = value32 a.mode f.mode i;
-  nlink = value32 a.nlink f.nlink i;
-  uid = value32 a.uid f.uid i;
-  gid = value32 a.gid f.gid i;
-}
-
 -- each error is found by its number
 pub error_is_found : (e : Errno) → find (λ one. number_of one == number_of e) all_errors ≡ Some e
 error_is_found e = grind arith
@@ -185,57 +133,87 @@ error_is_found e = grind arith
 error_back : (e : Errno) → error_of (number_of e) ≡ e
 error_back e = ap (λ found. unwrap_or found ENOENT) (error_is_found e)
 
-result_back : (told : Result Answer Errno) → FitsResult told → result_of (result_words told) ≡ told
-result_back (Ok Done) f = refl
-result_back (Ok (Entry a)) f = λ i. Ok (Entry (attr_back (codes "entry") a [] f i))
-result_back (Ok (Attr a)) f = λ i. Ok (Attr (attr_back (codes "attr") a [] f i))
-result_back (Ok (Open fh)) f = λ i. Ok (Open (value fh f i))
-result_back (Ok (Made a fh)) f = λ i. Ok (Made (attr_back (codes "made") a (decimal fh ∷ []) f.0 i) (value fh f.1 i))
-result_back (Ok (Lock start end kind pid)) f = λ i. Ok (Lock (value start f.0 i) (value end f.1 i) (value32 kind f.2 i) (value32 pid f.3 i))
-result_back (Err error) f = ap (λ n. Err (error_of n)) (value32 (number_of error) (number_small error)) ∙ ap (λ e. Err e) (error_back error)
+line_some : (line : Line) → 0 < length (line_words line)
+line_some (Asked worker o) = omega arith
+line_some (Told told) = omega arith
 
-line_back : (line : Line) → LineFits line → line_of_words (line_words line) ≡ line
-line_back (Asked worker o) f =
-    let few = f.0 in
-    let s = f.1 in
-    λ i. Asked (value worker (omega arith) i) (record {
-      unique = value o.unique s.unique i;
-      node = value o.node s.node i;
-      uid = value32 o.uid s.uid i;
-      gid = value32 o.gid s.gid i;
-      pid = value32 o.pid s.pid i;
-      op = unwrap_or (op_back o.op s.op i) (Getlk (lock_ask_of (line_words (Asked worker o))));
-    })
-line_back (Told told) f = λ i. Told (record { unique = value told.unique f.unique i; result = result_back told.result f.result i })
+module _ (w : AreReadBack) where
+  value32 : (n : ℕ) → n < 2 ^ 32 → number_of_word (decimal n) ≡ n
+  value32 n below = w.number n (small n below)
 
--- ---- the words of a text
+  lock_ask_back : (a : LockAsk) → FitsLock a → lock_ask_of (lock_ask_words a) ≡ a
+  lock_ask_back a f = λ i. record {
+    fh = w.number a.fh f.fh i;
+    owner = w.number a.owner f.owner i;
+    start = w.number a.start f.start i;
+    end = w.number a.end f.end i;
+    kind = value32 a.kind f.kind i;
+    pid = value32 a.pid f.pid i;
+    flags = value32 a.flags f.flags i;
+  }
 
-space : ℕ → Bool
-space b = eqb b 32
+  body_back : (b : Body) → FitsBody b → body_of_words (Ok (body_shape b)) (field_words b) ≡ b
+  body_back (body.Lock ask) f = λ i. body.Lock (lock_ask_back ask f i)
+  body_back (body.Create excl mode name) f = let few = f.0 in λ i. body.Create (flag_back excl i) (w.number mode (omega arith) i) (w.name name f.1 i)
+  body_back (body.Name name) f = λ i. body.Name (w.name name f i)
+  body_back (body.Number n) f = λ i. body.Number (w.number n f i)
+  body_back (body.Flush fh owner) f = λ i. body.Flush (w.number fh f.0 i) (w.number owner f.1 i)
+  body_back (body.Release fh unlocks owner) f = λ i. body.Release (w.number fh f.0 i) (flag_back unlocks i) (w.number owner f.1 i)
+  body_back body.Getattr f = refl
+  body_back body.Open f = refl
 
-split_spaced : (word : List ℕ) (words : List (List ℕ)) → AreWords (word ∷ words) → slice_split space (spaced (word ∷ words)) ≡ word ∷ words
-unfolding space
-split_spaced word [] are = slice_split_none space word (no_low 33 32 word are.0 (lit< tt))
-split_spaced word (next ∷ words) are =
-    slice_split_at space word 32 (spaced (next ∷ words)) (no_low 33 32 word are.0 (lit< tt)) refl ∙ ap (λ rest. word ∷ rest) (split_spaced next words are.1)
+  op_back : (op : Op) → FitsOp op → op_of_words (kind_of_word (word_for (kind_of op))) (field_words (body_of op)) ≡ Some op
+  op_back op f =
+      ap (λ found. op_of_words found (field_words (body_of op))) (kind_found (kind_of op))
+      ∙ ap (λ s. op_of (kind_of op) (body_of_words s (field_words (body_of op)))) (shape_made op)
+      ∙ ap (op_of (kind_of op)) (body_back (body_of op) f)
+      ∙ op_made op
 
-split_line : (line : Line) → AreWords (line_words line) → slice_split space (spaced (line_words line)) ≡ line_words line
-split_line (Asked worker o) are = split_spaced (codes "ask") (decimal worker ∷ order_words o) are
-split_line (Told told) are = split_spaced (codes "tell") (decimal told.unique ∷ result_words told.result) are
+  attr_back : (word : List ℕ) (a : Attributes) (more : List (List ℕ)) → FitsAttr a → attr_of (word ∷ attr_words a more) ≡ a
+  attr_back word a more f = λ i. record {
+    node = w.number a.node f.node i;
+    mode = value32 a.mode f.mode i;
+    nlink = value32 a.nlink f.nlink i;
+    uid = value32 a.uid f.uid i;
+    gid = value32 a.gid f.gid i;
+  }
 
--- the line that a text is of
-pub line_in : List ℕ → Line
-line_in text = line_of_words (slice_split space text)
+  result_back : (told : Result Answer Errno) → FitsResult told → result_of (result_words told) ≡ told
+  result_back (Ok Done) f = refl
+  result_back (Ok (Entry a)) f = λ i. Ok (Entry (attr_back (codes "entry") a [] f i))
+  result_back (Ok (Attr a)) f = λ i. Ok (Attr (attr_back (codes "attr") a [] f i))
+  result_back (Ok (Open fh)) f = λ i. Ok (Open (w.number fh f i))
+  result_back (Ok (Made a fh)) f = λ i. Ok (Made (attr_back (codes "made") a (decimal fh ∷ []) f.0 i) (w.number fh f.1 i))
+  result_back (Ok (Lock start end kind pid)) f = λ i. Ok (Lock (w.number start f.0 i) (w.number end f.1 i) (value32 kind f.2 i) (value32 pid f.3 i))
+  result_back (Err error) f = ap (λ n. Err (error_of n)) (value32 (number_of error) (number_small error)) ∙ ap (λ e. Err e) (error_back error)
 
-pub line_found : (line : Line) → LineFits line → line_in (line_text line) ≡ line
-unfolding line_in
-line_found line fits =
-    ap (λ text. line_of_words (slice_split space text)) (sym (line_spaced line)) ∙ ap line_of_words (split_line line (line_are line fits)) ∙ line_back line fits
+  line_back : (line : Line) → LineFits line → line_of_words (line_words line) ≡ line
+  line_back (Asked worker o) f =
+      let few = f.0 in
+      let s = f.1 in
+      λ i. Asked (w.number worker (omega arith) i) (record {
+        unique = w.number o.unique s.unique i;
+        node = w.number o.node s.node i;
+        uid = value32 o.uid s.uid i;
+        gid = value32 o.gid s.gid i;
+        pid = value32 o.pid s.pid i;
+        op = unwrap_or (op_back o.op s.op i) (Getlk (lock_ask_of (line_words (Asked worker o))));
+      })
+  line_back (Told told) f = λ i. Told (record { unique = w.number told.unique f.unique i; result = result_back told.result f.result i })
 
--- two lines never have one text
-pub line_alone : (line other : Line) → LineFits line → LineFits other → line_text line ≡ line_text other → line ≡ other
-line_alone line other fits also e = sym (line_found line fits) ∙ ap line_in e ∙ line_found other also
+  -- ---- the line of a text
 
--- a line's text is ASCII, and has no newline
-pub line_letters : (line : Line) → LineFits line → AreLetters 32 (line_text line)
-line_letters line fits = rw (← line_spaced line) (spaced_letters (line_words line) (line_are line fits))
+  pub line_found : (line : Line) → LineFits line → line_in (line_text line) ≡ line
+  line_found line fits =
+      ap line_in (sym (line_spaced line)) ∙ ap line_of_words (w.words (line_words line) (line_some line) (line_are w line fits)) ∙ line_back line fits
+
+  -- two lines never have one text
+  pub line_alone : (line other : Line) → LineFits line → LineFits other → line_text line ≡ line_text other → line ≡ other
+  line_alone line other fits also e = sym (line_found line fits) ∙ ap line_in e ∙ line_found other also
+
+  -- a line's text has no newline, and is UTF-8
+  pub line_lacks : (line : Line) → LineFits line → LacksByte 10 (line_text line)
+  line_lacks line fits = rw (← line_spaced line) (w.text_lacks_newline (line_words line) (line_are w line fits))
+
+  pub line_utf8 : (line : Line) → LineFits line → IsUtf8 (line_text line)
+  line_utf8 line fits = rw (← line_spaced line) (w.text_is_utf8 (line_words line) (line_are w line fits))

@@ -1,9 +1,8 @@
 -- The text of a history: a line of text for each of its lines, and which histories can be read back.
-use Rattle.std.specs.Prelude.{◌≡◌, ℕ, ◌+◌, ◌≤◌, ◌<◌, Bool, if◌then◌else◌, List, [], ◌∷◌, ◌++◌, length, All, codes}
+use Rattle.std.specs.Prelude.{◌≡◌, ℕ, ◌+◌, ◌≤◌, ◌<◌, List, [], ◌∷◌, ◌++◌, length, All, codes}
 use Rattle.std.specs.Prelude.{Option, Some, None, Result, Ok, Err}
-use Rattle.std.specs.List.{flat_map, join_with_byte}
+use Rattle.std.specs.List.{flat_map}
 use Rattle.std.specs.Fmt.{decimal}
-use Rattle.hex.specs.Hex.{encode_lower}
 use Rattle.fl_history.specs.declared.history.Line.{Line}
 use Rattle.fl_history.specs.declared.history.Line.TheVariants as line
 use Rattle.fl_order.specs.Errno.{number_of}
@@ -20,19 +19,7 @@ use Rattle.fl_order.specs.declared.told.Answer.{Answer}
 use Rattle.fl_order.specs.declared.told.Answer.TheVariants.{Done, Entry, Attr, Open, Made, Lock}
 use Rattle.fl_order.specs.declared.told.Attr.{Attr as Attributes}
 use Rattle.fl_order.specs.declared.told.Told.{Told}
-
--- words with one space between them
-abbrev pub spaced : List (List ℕ) → List ℕ
-spaced words = join_with_byte 32 words
-
--- a yes or no, as 1 or 0
-abbrev pub flag_text : Bool → List ℕ
-flag_text flag = if flag then codes "1" else codes "0"
-
--- a name in lower case hex, or a dash for the empty one
-abbrev pub name_text : List ℕ → List ℕ
-name_text [] = codes "-"
-name_text (b ∷ bytes) = encode_lower (b ∷ bytes)
+use Rattle.fl_words.specs.Words.{spaced, flag_text, name_text, behind}
 
 -- what a lock request asks for
 abbrev pub lock_ask_text : LockAsk → List ℕ
@@ -50,11 +37,6 @@ fields_text (body.Flush fh owner) = Some (spaced (decimal fh ∷ decimal owner �
 fields_text (body.Release fh unlocks owner) = Some (spaced (decimal fh ∷ flag_text unlocks ∷ decimal owner ∷ []))
 fields_text body.Getattr = None
 fields_text body.Open = None
-
--- what stands behind a word: a space and the fields, or nothing if there are none
-abbrev pub behind : Option (List ℕ) → List ℕ
-behind None = []
-behind (Some fields) = 32 ∷ fields
 
 -- what is asked: the word of its kind, and the fields of its body
 abbrev pub op_text : Op → List ℕ

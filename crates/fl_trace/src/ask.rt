@@ -11,8 +11,8 @@ ghost use Rattle.fl_order.specs.declared.order.Op.{Op};
 ghost use Rattle.fl_order.specs.declared.order.LockAsk.{LockAsk};
 ghost use Rattle.fl_trace.specs.Text.{order_text, op_text, fields_text, lock_ask_text};
 
-use crate::words::{first_word, flag_word, name, number, u32_number, u32_word, u64_word};
 use fl_order::{Body, LockAsk, Op, OpKind, Order, Shape};
+use fl_words::{first_word, flag_word, name, number, u32_number, u32_word, u64_word};
 
 /// An order; none if it has any other spelling.
 pub(super) fn asked_order(text: &str) -> Option<Order>

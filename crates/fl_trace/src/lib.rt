@@ -9,7 +9,6 @@ pub mod laws;
 mod line;
 mod read;
 mod tell;
-mod words;
 
 pub use line::{LINE_ROOM, push_line};
 pub use read::first_line;

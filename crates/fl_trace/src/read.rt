@@ -1,6 +1,8 @@
 //! Lines, read from their text.
 
-ghost use Rattle.std.specs.Prelude.{◌≡◌, ℕ, ◌++◌, ◌∷◌, List, IfSome, IsSome, IsSomeAnd, codes};
+ghost use Rattle.std.specs.Prelude.{◌≡◌, ◌==◌, ℕ, ◌++◌, ◌∷◌, List, IfSome, IsSome, IsSomeAnd, codes};
+ghost use Rattle.std.specs.List.{position};
+ghost use Rattle.std.specs.Str.Iter.{LacksByte};
 ghost use Rattle.fl_history.specs.declared.history.Line.{Line};
 ghost use Rattle.fl_history.specs.declared.history.Line.TheVariants.{Asked};
 ghost use Rattle.fl_order.specs.declared.order.Order.{Order};
@@ -8,8 +10,9 @@ ghost use Rattle.fl_trace.specs.Text.{asked_text, line_text, LineFits};
 
 use crate::ask::asked_order;
 use crate::tell::read_told;
-use crate::words::{split_line, split_word, u32_word};
 use fl_history::Line;
+use fl_words::laws::words_are_read_back;
+use fl_words::{split_word, u32_word};
 
 /// The first line of a text, and the text after its newline; none if no line that can be read back begins
 /// the text.
@@ -19,9 +22,27 @@ pub fn first_line(text: &[u8]) -> Option<(Line, &[u8])>
     ensures only { (line : Line) (after : List ℕ) → LineFits line → text.now ≡ line_text line ++ 10 ∷ after →
         IsSomeAnd result (λ read. (read.0 ≡ line) × (read.1.now ≡ after)) }
 {
+    words_are_read_back();
     let (line, rest) = split_line(text)?;
     let line = read_line(str::from_utf8(line).ok()?)?;
     Some((line, rest))
+}
+
+// The bytes before the first newline of a text, and those after it.
+fn split_line(text: &[u8]) -> Option<(&[u8], &[u8])>
+    ensures parts { IfSome result (λ parts. text.now ≡ parts.0.now ++ 10 ∷ parts.1.now) }
+    ensures only { (line rest : List ℕ) → LacksByte 10 line → text.now ≡ line ++ 10 ∷ rest →
+        IsSomeAnd result (λ parts. (parts.0.now ≡ line) × (parts.1.now ≡ rest)) }
+{
+    let end = newline(text)?;
+    Some((&text[..end], &text[end + 1..]))
+}
+
+// Where the first newline stands.
+fn newline(text: &[u8]) -> Option<usize>
+    ensures { result ≡ position (λ b. b == 10) text.now }
+{
+    text.iter().position(|byte| *byte == b'\n')
 }
 
 fn read_line(text: &str) -> Option<Line>
@@ -29,6 +50,7 @@ fn read_line(text: &str) -> Option<Line>
     ensures spelled { IfSome result (λ line. text.now ≡ line_text line) }
     ensures only { (line : Line) → LineFits line → text.now ≡ line_text line → IsSome result }
 {
+    words_are_read_back();
     let (word, rest) = split_word(text)?;
     match word {
         "ask" => read_asked(rest),

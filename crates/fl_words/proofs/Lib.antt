@@ -1,0 +1,5 @@
+pub mod WordLemmas
+pub mod Letters
+pub mod Numbers
+pub mod Digits
+pub mod Spaces
