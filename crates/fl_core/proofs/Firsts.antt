@@ -19,7 +19,7 @@ use Rattle.fl_core.specs.State.{Snapshot}
 use Rattle.fl_waiting.specs.Waiting.{is_parked, waits, AreApart}
 use Rattle.fl_waiting.specs.declared.parked.Request.{Request}
 use Rattle.fl_waiting.specs.declared.rules.Rules.{Rules}
-use Rattle.fl_core.proofs.Taken.{none_of}
+use Rattle.fl_core.proofs.Taken.{none_of, not_equal, yes_equal}
 use Rattle.fl_dir.specs.OpenFiles.{is_open_on}
 use Rattle.fl_order.specs.declared.errno.Errno.{Errno}
 use Rattle.fl_order.specs.declared.errno.Errno.TheVariants.{EINTR, EBADF, EINVAL, EAGAIN, EDEADLK, ENOLCK}
@@ -36,12 +36,6 @@ only_false true f = absurd (f refl)
 only_false false f = refl
 
 -- ---- requests of a unique
-
-yes_equal : (x y : ℕ) → x ≡ y → (x == y) ≡ true
-yes_equal x y e = grind (arith, nat_tests)
-
-not_equal : (x y : ℕ) → x ≢ y → (x == y) ≡ false
-not_equal x y ne = grind (arith, nat_tests)
 
 equals : (x y : ℕ) → (x == y) ≡ true → x ≡ y
 equals x y e = grind (arith, nat_tests)
@@ -109,7 +103,7 @@ told_of p order op =
 at_least : (most n : ℕ) → nat_le most n ≡ true → most ≤ n
 at_least most n e = grind (arith, nat_tests)
 
-below : (most n : ℕ) → nat_le most n ≡ false → n < most
+pub below : (most n : ℕ) → nat_le most n ≡ false → n < most
 below most n e = grind (arith, nat_tests)
 
 not_below : (most n : ℕ) → most ≤ n → nat_le most n ≡ true

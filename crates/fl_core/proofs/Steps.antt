@@ -1,8 +1,7 @@
 -- A whole step: its replies, and what they change.
 use Rattle.std.proofs.Common.{◌≡◌, ◌≢◌, ℕ, Bool, true, false, cond, Option, Some, None, Result, Err, List, [], ◌∷◌}
-use Rattle.std.proofs.Common.{◌++◌, append_assoc, append-nil, map, length, suc, ◌+◌, ◌≤◌, ◌<◌, nat_le, refl, sym, ap}
+use Rattle.std.proofs.Common.{◌++◌, append_assoc, append-nil, map, length, suc, ◌+◌, ◌≤◌, refl, sym, ap}
 use Rattle.std.proofs.Common.{◌∙◌, subst, arith}
-use Rattle.std.proofs.lemmas.Bool.Decides.{nat_tests}
 use Rattle.std.specs.List.{filter, AllByRecursion}
 use Rattle.fl_core.specs.Effects.{Effect, leaving, answered, unanswered, request_of, waited_for, with_waiter, by_reply}
 use Rattle.fl_core.specs.Effects.{at_once, replied, made}
@@ -18,6 +17,7 @@ use Rattle.fl_core.specs.declared.ending.Ending.{Ending}
 use Rattle.fl_waiting.specs.declared.parked.Request.{Request}
 use Rattle.fl_waiting.specs.declared.rules.Rules.{Rules}
 use Rattle.fl_core.proofs.Effects.{made_all, made_all-append, made_replied, AreOthers}
+use Rattle.fl_core.proofs.Firsts.{below}
 use Rattle.fl_core.proofs.Readings.{settled_read, ended_read}
 use Rattle.fl_core.proofs.Settlings.{is_settled, settled_none}
 use Rattle.fl_core.proofs.Taken.{all_passing, apart_more, apart_passing, none_of, one_longer}
@@ -247,9 +247,6 @@ waits_within None true false true room x y is = absurd (cc is)
 waits_within None true true full room x y is = absurd (cc is)
 waits_within None false deadlock full room x y is = absurd (cc is)
 waits_within (Some e) conflict deadlock full room x y is = absurd (cc is)
-
-below : (most n : ℕ) → nat_le most n ≡ false → n < most
-below most n e = grind (arith, nat_tests)
 
 -- so no more wait than may
 pub few_stay : (order : Order) (own : Option (Result Answer Errno)) (p : Snapshot) → own ≡ reply_to p.rules p.view p.marking order order.op

@@ -47,18 +47,18 @@ taken_alike p q [] all = refl
 taken_alike p q (r ∷ parked) all = λ i. cond (all.0 i) (Some (r, parked)) (keep r (taken_alike p q parked all.1 i))
 
 -- the request of a unique that no older one has
-same : (x y : ℕ) → x ≡ y → (x == y) ≡ true
-same x y e = grind (arith, nat_tests)
+pub yes_equal : (x y : ℕ) → x ≡ y → (x == y) ≡ true
+yes_equal x y e = grind (arith, nat_tests)
 
-other : (x y : ℕ) → x ≢ y → (x == y) ≡ false
-other x y ne = grind (arith, nat_tests)
+pub not_equal : (x y : ℕ) → x ≢ y → (x == y) ≡ false
+not_equal x y ne = grind (arith, nat_tests)
 
 pub taken_there : (older : List Request) (r : Request) (younger : List Request) → AllByRecursion (λ (b : Request). b.unique ≢ r.unique) older
     → taken_out r.unique (older ++ r ∷ younger) ≡ Some (r, older ++ younger)
 unfolding taken_first
-taken_there [] r younger apart = ap (λ b. cond b (Some (r, younger)) (keep r (taken_out r.unique younger))) (same r.unique r.unique refl)
+taken_there [] r younger apart = ap (λ b. cond b (Some (r, younger)) (keep r (taken_out r.unique younger))) (yes_equal r.unique r.unique refl)
 taken_there (a ∷ older) r younger apart =
-    λ i. cond (other a.unique r.unique apart.0 i) (Some (a, older ++ r ∷ younger)) (keep a (taken_there older r younger apart.1 i))
+    λ i. cond (not_equal a.unique r.unique apart.0 i) (Some (a, older ++ r ∷ younger)) (keep a (taken_there older r younger apart.1 i))
 
 not_at : (a r : Request) (older younger : List Request) → AllByRecursion (λ (b : Request). b.unique ≢ a.unique) (older ++ r ∷ younger)
     → (r.unique ≢ a.unique) × AllByRecursion (λ (b : Request). b.unique ≢ a.unique) (older ++ younger)

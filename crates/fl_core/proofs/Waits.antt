@@ -88,7 +88,7 @@ concerns_alike Anything n k a b c e = refl
 numbers_equal : (m n : ℕ) → (m == n) ≡ true → m ≡ n
 numbers_equal m n e = grind (arith, nat_tests)
 
-both_true : (a b : Bool) → (a && b) ≡ true → (a ≡ true) × (b ≡ true)
+pub both_true : (a b : Bool) → (a && b) ≡ true → (a ≡ true) × (b ≡ true)
 both_true true b e = (refl, e)
 both_true false b e = absurd (cc e)
 

@@ -24,10 +24,13 @@ pub record AreCounted (a : Arenas) : Type 0 where
   pub files : a.directory.file_chains ≡ length a.directory.files.now.chains
   pub parked : length a.parked.now.chains ≡ 1
 
--- what stands in the arenas is what is there: nodes, open files, locks, and parked requests in the order of asking
+-- what stands in the arenas is what is there: nodes, open files, locks, and parked requests in the order of asking; and
+-- these numbers come next
 pub record Hold (a : Arenas) (p : Snapshot) : Type 0 where
   pub nodes : bare (values_on a.directory.nodes.now) ≡ p.view.directory.nodes
   pub files : values_on a.directory.files.now ≡ p.view.directory.files
+  pub next_node : a.directory.next_node ≡ p.view.directory.next_node
+  pub next_fh : a.directory.next_fh ≡ p.view.directory.next_fh
   pub locks : marking_in a.locks.now ≡ p.marking
   pub parked : map (λ (claim : Claim). claim.request) (items a.parked.now 0) ≡ p.view.parked
 

@@ -3,12 +3,13 @@ use Rattle.std.specs.Prelude.{ℕ, ◌==◌, Bool, not, ◌&&◌, nat_le, Some, 
 use Rattle.std.specs.Prelude.{◌++◌, length}
 use Rattle.fl_core.specs.Replies.{set_reply}
 use Rattle.fl_core.specs.State.{State, Snapshot, opening}
-use Rattle.fl_dir.specs.Restored.{fits_node, fits_file, with_node, with_file}
+use Rattle.fl_dir.specs.Restored.{fits_node, fits_file, with_node, with_file, with_numbers}
 use Rattle.fl_dir.specs.declared.node.Node.{Node}
 use Rattle.fl_marks.specs.Bytes.{is_range}
 use Rattle.fl_marks.specs.Change.{struck}
-use Rattle.fl_marks.specs.Marking.{Marking, Stroke, stroked}
+use Rattle.fl_marks.specs.Marking.{Marking, stroked}
 use Rattle.fl_marks.specs.declared.run.Run.{Run}
+use Rattle.fl_ranges.specs.Setting.{meant}
 use Rattle.fl_waiting.specs.LockRequest.{is_malformed}
 use Rattle.fl_waiting.specs.Waiting.{is_parked, waits}
 use Rattle.fl_waiting.specs.declared.parked.Request.{Request}
@@ -24,19 +25,14 @@ pub data Part : Type 0 where
 -- no part is told yet, and these numbers come next
 abbrev pub begun : Rules → ℕ → ℕ → State
 begun rules node fh =
-    let s = opening rules in
-    record s { view = record s.view { directory = record s.view.directory { next_node = node; next_fh = fh } } }
-
--- the stroke that sets a run's lock
-abbrev pub stroke_of_run : Run → Stroke
-stroke_of_run r = record { key = r.key; start = r.start; end = r.end; mark = Some r.mark }
+    let s = opening rules in record s { view = record s.view { directory = with_numbers s.view.directory node fh } }
 
 -- one part more
 abbrev pub told_part : Part → State → State
 told_part (a_node number node) s =
     record s { view = record s.view { directory = with_node s.view.directory number node } }
 told_part (a_file fh node) s = record s { view = record s.view { directory = with_file s.view.directory fh node } }
-told_part (a_lock r) s = record s { changes = struck (stroke_of_run r) ∷ s.changes }
+told_part (a_lock r) s = record s { changes = struck (meant r) ∷ s.changes }
 told_part (a_request r) s = record s { view = record s.view { parked = s.view.parked ++ r ∷ [] } }
 
 -- the same of what contracts see
@@ -44,7 +40,7 @@ abbrev pub with_part : Part → Snapshot → Snapshot
 with_part (a_node number node) p =
     record p { view = record p.view { directory = with_node p.view.directory number node } }
 with_part (a_file fh node) p = record p { view = record p.view { directory = with_file p.view.directory fh node } }
-with_part (a_lock r) p = record p { marking = stroked (stroke_of_run r) p.marking }
+with_part (a_lock r) p = record p { marking = stroked (meant r) p.marking }
 with_part (a_request r) p = record p { view = record p.view { parked = p.view.parked ++ r ∷ [] } }
 
 -- a reply is no error
@@ -54,7 +50,7 @@ is_done (Err e) = false
 
 -- a lock can be set: its bytes are a range, it conflicts with none, and there is room
 abbrev pub fits_lock : ℕ → Marking → Run → Bool
-fits_lock most m r = is_range r.start r.end && is_done (set_reply most m (stroke_of_run r) (Some r.mark))
+fits_lock most m r = is_range r.start r.end && is_done (set_reply most m (meant r) (Some r.mark))
 
 -- a request can wait behind these: it is well-formed, as each parked one is, its unique is new, there is room, and
 -- something blocks it

@@ -89,8 +89,7 @@ pub(crate) fn set_or_wait(
         Ok(range) => range,
         Err(e) => return Some(Err(e)),
     };
-    let key = key_of(node, ask);
-    let mark = mark_of(ask);
+    let (key, mark) = (key_of(node, ask), mark_of(ask));
     if !is_blocked(rules, locks, parked, &key, &range, mark) {
         return Some(set_range(locks, &key, &range, mark));
     }

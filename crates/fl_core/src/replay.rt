@@ -1,11 +1,12 @@
 //! Recorded orders, carried out again by their replies.
 
-ghost use Rattle.std.specs.Prelude.{◌≡◌, ◌≤◌, ◌++◌, ◌∷◌, [], true, false, length, Some, None, Ok};
+ghost use Rattle.std.specs.Prelude.{◌≡◌, ◌≤◌, ◌&&◌, ◌++◌, ◌∷◌, [], true, false, nat_le, not, length, Some, None, Ok};
 ghost use Rattle.fl_core.specs.Effects.{at_once, locked, made};
 ghost use Rattle.fl_counter.specs.Tolds.{HasRoom, own_replies};
 ghost use Rattle.fl_core.specs.Step.{next, replies};
 ghost use Rattle.fl_order.specs.declared.told.Answer.{Answer};
 ghost use Rattle.fl_marks.specs.Change.{after_changes};
+ghost use Rattle.fl_waiting.specs.LockRequest.{is_malformed};
 ghost use Rattle.fl_waiting.specs.Waiting.{is_parked};
 
 use crate::locking::set_range;
@@ -106,7 +107,8 @@ fn restore(locks: &mut Table, node: u64, ask: &LockAsk) -> bool
 }
 
 // Parks a request behind the others, whatever blocks it. Says whether there was room.
-fn park(rules: Rules, parked: &mut Parked, request: Request) -> bool
+pub(crate) fn park(rules: Rules, parked: &mut Parked, request: Request) -> bool
+    ensures fits { result ≡ (not (is_malformed request.ask) && not (nat_le rules.parked (length parked.old))) }
     ensures parks { result ≡ true → parked.new ≡ parked.old ++ request ∷ [] }
     ensures few { result ≡ true → length parked.new ≤ rules.parked }
     ensures full { result ≡ false → parked.new ≡ parked.old }

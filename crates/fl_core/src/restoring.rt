@@ -1,32 +1,46 @@
 //! A core that is told again, part by part.
 
-ghost use Rattle.std.specs.Prelude.{◌≡◌, ◌++◌, ◌∷◌, [], true, false, IfOk};
-ghost use Rattle.fl_core.specs.Restored.{a_node, a_file, a_lock, a_request, begun, fits, fits_lock};
-ghost use Rattle.fl_core.specs.Restored.{fits_request, stroke_of_run, with_part};
+ghost use Rattle.std.specs.Prelude.{◌≡◌, ◌≤◌, ◌<◌, ◌++◌, ◌∷◌, [], true, false, IfOk};
+ghost use Rattle.fl_core.specs.Restored.{a_node, a_file, a_lock, a_request, begun, fits};
+ghost use Rattle.fl_core.specs.Restored.{fits_lock, fits_request, with_part};
 ghost use Rattle.fl_core.specs.State.{snapshot_of};
+ghost use Rattle.fl_dir.specs.Restored.{with_numbers};
 ghost use Rattle.fl_marks.specs.Conflict.{IsLawful};
 ghost use Rattle.fl_marks.specs.Marking.{stroked};
+ghost use Rattle.fl_ranges.specs.Setting.{meant};
 
 use crate::locking::{change, is_blocked};
-use crate::parts::Parts;
+use crate::replay::park;
 use crate::state::Core;
-use fl_dir::{Dir, Node};
+use fl_dir::Node;
 use fl_marks::{Range, Run};
 use fl_order::NoMemory;
 use fl_ranges::Table;
 use fl_waiting::lock_request::{key_of, mark_of, range_of};
-use fl_waiting::{Claim, Parked, Request, Rules};
+use fl_waiting::{Parked, Request, Rules};
 use std::alloc::Global;
 
 impl Core {
     /// No part is told yet, and these numbers of nodes and fhs come next.
     pub fn begun_at(alloc: Global, rules: Rules, node: u64, fh: u64) -> Result<Core, NoMemory>
+        requires { (1 < node) × (0 < fh) }
         ensures begun { IfOk result (λ c. c ≡ snapshot_of (begun rules node fh)) }
         ensures lawful { IfOk result (λ c. IsLawful c.marking) }
     {
-        let mut parts = Parts::new(alloc, rules)?;
-        parts.directory = Dir::begun_at(alloc, rules.files, rules.open_files, node, fh)?;
-        Ok(Core { parts })
+        let mut core = Core::new(alloc, rules)?;
+        core.begin_at(node, fh);
+        Ok(core)
+    }
+
+    /// The next node and the next fh get these numbers. Only `restore_node` and `restore_file` fill those between.
+    pub fn begin_at(&mut self, node: u64, fh: u64)
+        requires node { self.old.view.directory.next_node ≤ node }
+        requires fh { self.old.view.directory.next_fh ≤ fh }
+        ensures { self.new ≡ record self.old {
+          view = record self.old.view { directory = with_numbers self.old.view.directory node fh };
+        } }
+    {
+        self.parts.directory.begin_at(node, fh);
     }
 
     /// Puts a node back, if it fits, and says whether it did.
@@ -71,7 +85,7 @@ impl Core {
 // A lock is held again, if it fits.
 fn set_told(locks: &mut Table, run: &Run) -> bool
     ensures fits { result ≡ fits_lock locks.old.limit locks.old.marking run.now }
-    ensures set { result ≡ true → locks.new.marking ≡ stroked (stroke_of_run run.now) locks.old.marking }
+    ensures set { result ≡ true → locks.new.marking ≡ stroked (meant run.now) locks.old.marking }
     ensures refused { result ≡ false → locks.new.marking ≡ locks.old.marking }
     ensures lawful { IsLawful locks.old.marking → IsLawful locks.new.marking }
     ensures limit { locks.new.limit ≡ locks.old.limit }
@@ -88,22 +102,11 @@ fn wait_told(rules: Rules, locks: &Table, parked: &mut Parked, request: &Request
     ensures waits { result ≡ true → parked.new ≡ parked.old ++ request.now ∷ [] }
     ensures refused { result ≡ false → parked.new ≡ parked.old }
 {
-    let ask = &request.ask;
-    let Some(range) = range_of(ask) else {
+    let Some(range) = range_of(&request.ask) else {
         return false;
     };
-    let (key, mark) = (key_of(request.node, ask), mark_of(ask));
-    if parked.has(request.unique)
-        || parked.is_full(rules)
-        || !is_blocked(rules, locks, parked, &key, &range, mark)
-    {
-        return false;
-    }
-    parked.push(Claim {
-        request: *request,
-        key,
-        range,
-        mark,
-    });
-    true
+    let (key, mark) = (key_of(request.node, &request.ask), mark_of(&request.ask));
+    !parked.has(request.unique)
+        && is_blocked(rules, locks, parked, &key, &range, mark)
+        && park(rules, parked, *request)
 }

@@ -135,32 +135,28 @@ impl Core {
     pub fn table(&self) -> &Table
         ensures { result.now.marking ≡ self.now.marking }
     {
-        let parts = &self.parts;
-        &parts.locks
+        &self.parts.locks
     }
 
     /// The requests that wait, the oldest first.
     pub fn parked(&self) -> &Parked
         ensures { result.now ≡ self.now.view.parked }
     {
-        let parts = &self.parts;
-        &parts.parked
+        &self.parts.parked
     }
 
     /// Names, nodes and open files.
     pub fn directory(&self) -> &Dir
         ensures { result.now ≡ self.now.view.directory }
     {
-        let parts = &self.parts;
-        &parts.directory
+        &self.parts.directory
     }
 
     /// By which rules requests wait.
     pub fn rules(&self) -> Rules
         ensures { result ≡ self.now.rules }
     {
-        let parts = &self.parts;
-        parts.rules
+        self.parts.rules
     }
 
     /// Whether a request of this owner for a record lock is parked.

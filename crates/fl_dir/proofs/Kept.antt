@@ -21,11 +21,12 @@ use Rattle.fl_dir.specs.OpenFiles.{has_open_file}
 use Rattle.fl_dir.specs.Changes.{set_at, changed_at}
 use Rattle.fl_dir.specs.Arenas.{bare, values_on}
 use Rattle.fl_dir.specs.Inside.Kept.{link_name, name_in, open_in, hash_of, hash_on, has_name, open_count, AreNamed, IsKept}
-use Rattle.fl_dir.specs.Inside.Numbers.{Numbers}
+use Rattle.fl_dir.specs.Inside.Numbers.{Numbers, AreAbove}
 use Rattle.fl_dir.specs.Inside.Spread.{at, IsAltered}
 use Rattle.fl_dir.proofs.Entries.{truth, tied}
 use Rattle.fl_dir.proofs.Spread.{own_key, same_key, counted, some_on, unaltered, none_at, none_sorted, chains_made}
 use Rattle.fl_dir.proofs.Bare.{get_bare, none_found, find_none, find_nothing, find_one, found_passes}
+use Rattle.fl_dir.proofs.Numbers.{above_put, above_changed, above_removed, above_none, below_limit}
 use Rattle.fl_dir.proofs.Counts.{ones, any_counted, count_insert, count_remove, len_within}
 
 -- what contracts see of nodes and files
@@ -42,9 +43,9 @@ seen n f = record {
 -- ---- nodes that change and keep their names
 
 same_names : (n n1 : Numbers Slot) (names : Chains (ℕ × ℕ)) (mask : ℕ) (f f1 : Numbers ℕ) → IsKept n names mask f → n1.limit ≡ n.limit → f1.limit ≡ f.limit
-    → ((q : ℕ) → name_in (map.get n1.values q) ≡ name_in (map.get n.values q))
+    → AreAbove 1 n1 → AreAbove 0 f1 → ((q : ℕ) → name_in (map.get n1.values q) ≡ name_in (map.get n.values q))
     → ((q : ℕ) → open_in (map.get n1.values q) ≡ open_count f1.values q) → IsKept n1 names mask f1
-same_names n n1 names mask f f1 kept limit files same counts = record {
+same_names n n1 names mask f f1 kept limit files nodes_above files_above same counts = record {
   named = record {
     chains = kept.named.chains;
     sorted = kept.named.sorted;
@@ -54,6 +55,8 @@ same_names n n1 names mask f f1 kept limit files same counts = record {
   once = λ k l name p r. kept.once k l name (sym (same k) ∙ p) (sym (same l) ∙ r);
   counts = counts;
   few = subst (λ (m : ℕ). m ≤ 65536) (sym files) kept.few;
+  nodes_above = nodes_above;
+  files_above = files_above;
 }
 
 put_in : {A : Type 0} (h : Option Slot → A) (m : map.FinMap nat_cmp Slot) (k : ℕ) (t : Slot) (q : ℕ) (a : A) →
@@ -80,13 +83,15 @@ kept_names m k s t there same q = put_in name_in m k t q (link_name t.node) refl
 pub changed : (n : Numbers Slot) (names : Chains (ℕ × ℕ)) (mask : ℕ) (f : Numbers ℕ) (k : ℕ) (s t : Slot) → IsKept n names mask f →
     map.get n.values k ≡ Some s → link_name t.node ≡ link_name s.node → t.fhs ≡ s.fhs → IsKept (record n { values = map.insert n.values k t }) names mask f
 changed n names mask f k s t kept there name shut =
-    same_names n (record n { values = map.insert n.values k t }) names mask f f kept refl refl (kept_names n.values k s t there name)
+    same_names n (record n { values = map.insert n.values k t }) names mask f f kept refl refl
+    (above_changed 1 n kept.nodes_above k s t there) kept.files_above (kept_names n.values k s t there name)
     (λ q. put_in open_in n.values k t q t.fhs refl ∙ put_same open_in n.values k s q t.fhs there (sym shut) ∙ kept.counts q)
 
 pub gone : (n : Numbers Slot) (names : Chains (ℕ × ℕ)) (mask : ℕ) (f : Numbers ℕ) (k : ℕ) (s : Slot) → IsKept n names mask f →
     map.get n.values k ≡ Some s → link_name s.node ≡ None → s.fhs ≡ 0 → IsKept (record n { values = map.remove n.values k }) names mask f
 gone n names mask f k s kept there nameless closed =
     same_names n (record n { values = map.remove n.values k }) names mask f f kept refl refl
+    (above_removed 1 n kept.nodes_above k) kept.files_above
     (λ q. taken name_in q None refl ∙ put_same name_in n.values k s q None there nameless)
     (λ q. taken open_in q 0 refl ∙ put_same open_in n.values k s q 0 there closed ∙ kept.counts q)
   where
@@ -100,9 +105,10 @@ gone n names mask f k s kept there nameless closed =
 
 -- one more node, without a name
 pub unlinked_more : (n : Numbers Slot) (names : Chains (ℕ × ℕ)) (mask : ℕ) (f : Numbers ℕ) (k : ℕ) (t : Slot) → IsKept n names mask f →
-    map.get n.values k ≡ None → link_name t.node ≡ None → t.fhs ≡ 0 → IsKept (record n { values = map.insert n.values k t }) names mask f
-unlinked_more n names mask f k t kept fresh nameless closed =
+    1 < k → map.get n.values k ≡ None → link_name t.node ≡ None → t.fhs ≡ 0 → IsKept (record n { values = map.insert n.values k t }) names mask f
+unlinked_more n names mask f k t kept high fresh nameless closed =
     same_names n (record n { values = map.insert n.values k t }) names mask f f kept refl refl
+    (above_put 1 n kept.nodes_above k t n.next high kept.nodes_above.next) kept.files_above
     (λ q. put_in name_in n.values k t q None nameless ∙ stays name_in q)
     (λ q. put_in open_in n.values k t q 0 closed ∙ stays open_in q ∙ kept.counts q)
   where
@@ -117,9 +123,10 @@ unlinked_more n names mask f k t kept fresh nameless closed =
 
 pub opened : (n : Numbers Slot) (names : Chains (ℕ × ℕ)) (mask : ℕ) (f : Numbers ℕ) (k fh next : ℕ) (s t : Slot) → IsKept n names mask f
     → map.get n.values k ≡ Some s → link_name t.node ≡ link_name s.node → t.fhs ≡ s.fhs + 1 → map.get f.values fh ≡ None
-    → IsKept (record n { values = map.insert n.values k t }) names mask (record f { values = map.insert f.values fh k; next = next })
-opened n names mask f k fh next s t kept there name more new =
+    → 0 < fh → 0 < next → IsKept (record n { values = map.insert n.values k t }) names mask (record f { values = map.insert f.values fh k; next = next })
+opened n names mask f k fh next s t kept there name more new high up =
     same_names n (record n { values = map.insert n.values k t }) names mask f (record f { values = map.insert f.values fh k; next = next }) kept refl refl
+    (above_changed 1 n kept.nodes_above k s t there) (above_put 0 f kept.files_above fh k next high up)
     (kept_names n.values k s t there name)
     (λ q. put_in open_in n.values k t q t.fhs refl ∙ go q (eq_by_cmp nat_cmp q k) refl
     ∙ sym (count_insert (λ (file : ℕ × ℕ). file.1 == q) f.values fh k new))
@@ -140,6 +147,7 @@ pub closed : (n : Numbers Slot) (names : Chains (ℕ × ℕ)) (mask : ℕ) (f : 
     → IsKept (record n { values = map.insert n.values k t }) names mask (record f { values = map.remove f.values fh })
 closed n names mask f k fh s t kept there name less on =
     same_names n (record n { values = map.insert n.values k t }) names mask f (record f { values = map.remove f.values fh }) kept refl refl
+    (above_changed 1 n kept.nodes_above k s t there) (above_removed 0 f kept.files_above fh)
     (kept_names n.values k s t there name)
     (λ q. put_in open_in n.values k t q t.fhs refl ∙ go q (eq_by_cmp nat_cmp q k) refl)
   where
@@ -173,12 +181,8 @@ counts_few n names mask f k s t kept there clear =
     let most = count_by-le-length (λ (file : ℕ × ℕ). file.1 == k) (map.entries f.values) in
     let lengths = map.len-entries f.values in
     let few = kept.few in
-    let room = less (nat_le f.limit (map.len f.values)) refl clear in
+    let room = below_limit f.limit (map.len f.values) t clear in
     omega arith
-  where
-    less : (b : Bool) → nat_le f.limit (map.len f.values) ≡ b → (b || t) ≡ false → map.len f.values < f.limit
-    less true is h = absurd (cc h)
-    less false is h = grind (arith, nat_tests)
 
 pub counts_open : (n : Numbers Slot) (names : Chains (ℕ × ℕ)) (mask : ℕ) (f : Numbers ℕ) (k : ℕ) → IsKept n names mask f →
     has_open_file (seen n f) k ≡ not (open_in (map.get n.values k) == 0)
@@ -286,10 +290,10 @@ is_free m name none q is = go (map.get m q) refl is
 
 -- one more node, with a name that is free
 pub linked_more : (n : Numbers Slot) (names names1 : Chains (ℕ × ℕ)) (mask : ℕ) (f : Numbers ℕ) (k next : ℕ) (t : Slot) (name : List ℕ) → IsKept n names mask f
-    → map.get n.values k ≡ None → link_name t.node ≡ Some name → t.fhs ≡ 0 → ((q : ℕ) → name_in (map.get n.values q) ≡ Some name → ⊥)
+    → 1 < k → 1 < next → map.get n.values k ≡ None → link_name t.node ≡ Some name → t.fhs ≡ 0 → ((q : ℕ) → name_in (map.get n.values q) ≡ Some name → ⊥)
     → IsAltered names names1 (bit_and (hash_of name) mask) k (Some (hash_of name))
     → IsKept (record n { values = map.insert n.values k t; next = next }) names1 mask f
-linked_more n names names1 mask f k next t name kept fresh has shut free new = record {
+linked_more n names names1 mask f k next t name kept high up fresh has shut free new = record {
   named =
       renamed n.values (map.insert n.values k t) names names1 mask (bit_and (hash_of name) mask) k (Some name) (Some (hash_of name)) kept.named new
       now (λ c. ap (λ b. cond b (Some (hash_of name)) None) (turned (bit_and (hash_of name) mask) c))
@@ -300,6 +304,8 @@ linked_more n names names1 mask f k next t name kept fresh has shut free new = r
       (λ other same q is. free q (is ∙ sym same));
   counts = λ q. put_in open_in n.values k t q 0 shut ∙ go q (eq_by_cmp nat_cmp q k) refl ∙ kept.counts q;
   few = kept.few;
+  nodes_above = above_put 1 n kept.nodes_above k t next high up;
+  files_above = kept.files_above;
 }
   where
     now : (q : ℕ) → name_in (map.get (map.insert n.values k t) q) ≡ cond (eq_by_cmp nat_cmp q k) (Some name) (name_in (map.get n.values q))
@@ -322,6 +328,8 @@ linked_less n names names1 mask f k s t name kept there has nameless shut new = 
   once = once_renamed n.values (map.insert n.values k t) k None now kept.once (λ other same q is. absurd (none-some other same));
   counts = λ q. put_in open_in n.values k t q t.fhs refl ∙ put_same open_in n.values k s q t.fhs there (sym shut) ∙ kept.counts q;
   few = kept.few;
+  nodes_above = above_changed 1 n kept.nodes_above k s t there;
+  files_above = kept.files_above;
 }
   where
     now : (q : ℕ) → name_in (map.get (map.insert n.values k t) q) ≡ cond (eq_by_cmp nat_cmp q k) None (name_in (map.get n.values q))
@@ -334,15 +342,15 @@ linked_less n names names1 mask f k s t name kept there has nameless shut new = 
     on : (c : ℕ) → at names c k ≡ hash_on mask c (Some name)
     on c = kept.named.linked c k ∙ ap (hash_on mask c) (ap name_in there ∙ has)
 
+itself : (a : ℕ) → (a == a) ≡ true
+itself a = grind (arith, nat_tests)
+
 -- a linked node stands on the chain of its name's hash
 pub stands_there : (n : Numbers Slot) (names : Chains (ℕ × ℕ)) (mask : ℕ) (f : Numbers ℕ) (k : ℕ) (name : List ℕ) → IsKept n names mask f
     → name_in (map.get n.values k) ≡ Some name → at names (bit_and (hash_of name) mask) k ≡ Some (hash_of name)
 stands_there n names mask f k name kept has =
     kept.named.linked (bit_and (hash_of name) mask) k ∙ ap (hash_on mask (bit_and (hash_of name) mask)) has
     ∙ ap (λ b. cond b (Some (hash_of name)) None) (itself (bit_and (hash_of name) mask))
-  where
-    itself : (a : ℕ) → (a == a) ≡ true
-    itself a = grind (arith, nat_tests)
 
 -- ---- room for names
 
@@ -402,9 +410,6 @@ not_linked n names mask f name kept none =
         (stands_there n names mask f q name kept own) in
         let hit : passes n name (q, hash_of name) ≡ true = ap (λ b. (hash_of name == hash_of name) && b) has ∙ ap (λ b. b && true) (itself (hash_of name)) in
         let clash : true ≡ false = sym hit ∙ missed in absurd (cc clash)
-      where
-        itself : (a : ℕ) → (a == a) ≡ true
-        itself a = grind (arith, nat_tests)
 
 pub is_linked : (n : Numbers Slot) (names : Chains (ℕ × ℕ)) (mask : ℕ) (f : Numbers ℕ) (name : List ℕ) (k : ℕ) (s : Slot) → IsKept n names mask f
     → map.get n.values k ≡ Some s → link_name s.node ≡ Some name
@@ -466,8 +471,9 @@ searched n f names mask name d hash from chain r view is same place found =
 
 -- a directory with nothing in it
 pub new_kept : (n : Numbers Slot) (f : Numbers ℕ) (names : Chains (ℕ × ℕ)) (mask size slots : ℕ) → n.values ≡ map.empty → f.values ≡ map.empty
-    → names ≡ record { chains = replicate size []; slots = slots } → mask + 1 ≡ size → slots ≡ n.limit → f.limit ≤ 65536 → IsKept n names mask f
-new_kept n f names mask size slots nodes files is sized room few = record {
+    → names ≡ record { chains = replicate size []; slots = slots } → mask + 1 ≡ size → slots ≡ n.limit → f.limit ≤ 65536
+    → 1 < n.next → 0 < f.next → IsKept n names mask f
+new_kept n f names mask size slots nodes files is sized room few next_node next_fh = record {
   named = record {
     chains = sized ∙ sym (chains_made names size slots is);
     sorted = none_sorted names size slots is;
@@ -477,6 +483,8 @@ new_kept n f names mask size slots nodes files is sized room few = record {
   once = λ k l name p r. absurd (none-some name (sym (ap name_in (none k)) ∙ p));
   counts = λ q. ap open_in (none q) ∙ sym (ap (λ (m : map.FinMap nat_cmp ℕ). open_count m q) files ∙ ap (count_by (λ (file : ℕ × ℕ). file.1 == q)) no_entries);
   few = few;
+  nodes_above = above_none 1 n nodes next_node;
+  files_above = above_none 0 f files next_fh;
 }
   where
     none : (q : ℕ) → map.get n.values q ≡ None

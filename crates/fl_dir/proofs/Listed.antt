@@ -1,5 +1,5 @@
 -- The entries of all chains, as those of a map and of a directory.
-use Rattle.std.proofs.Common.{◌≡◌, ℕ, suc, ◌+◌, ◌<◌, Bool, true, false, cond, sum_by, is_some, Option, Some, None, IsSome}
+use Rattle.std.proofs.Common.{◌≡◌, ℕ, suc, ◌+◌, true, cond, sum_by, is_some, Option, Some, None, IsSome}
 use Rattle.std.proofs.Common.{option_map, List, [], ◌∷◌, ◌++◌, length, length-append, refl, ap, sym, ◌∙◌, arith}
 use Rattle.std.specs.Prelude.{map as each}
 use Rattle.std.proofs.lemmas.List.{length-map}
@@ -19,8 +19,8 @@ use Rattle.fl_dir.specs.declared.node.Node.{Node}
 use Rattle.fl_dir.specs.declared.nodes.Slot.{Slot}
 use Rattle.fl_dir.proofs.Bare.{plain, find_plain, get_bare}
 use Rattle.fl_dir.proofs.Entries.{head_below, rest_sorted, none_above}
-use Rattle.fl_dir.proofs.Kept.{seen, counts_one, open_there, has_so}
-use Rattle.fl_dir.proofs.Spread.{find_after, none_of, some_on, own_key}
+use Rattle.fl_dir.proofs.Kept.{seen, counts_one, open_there, has_so, node_kept}
+use Rattle.fl_dir.proofs.Spread.{find_after, found_behind, none_of, some_on, own_key}
 
 module _ {X : Type 0} where
   abbrev chain : List (List (Entry (ℕ × X))) → ℕ → List (ℕ × X)
@@ -36,12 +36,8 @@ module _ {X : Type 0} where
   apart_after (e ∷ es) fs first second none = (
     find_after es fs e.0 ∙ ap (λ o. option_or o (rising.find nat_cmp e.0 fs)) first.0
         ∙ none e.0 e.1 (ap (λ b. cond b (Some e.1) (rising.find nat_cmp e.0 es)) (own_key e.0)),
-    apart_after es fs first.1 second (λ q x is. let s = skip q x is (eq_by_cmp nat_cmp q e.0) refl in none q s.0 s.1),
+    apart_after es fs first.1 second (λ q x is. let s = found_behind e es q x is (eq_by_cmp nat_cmp q e.0) refl in none q s.0 s.1),
   )
-    where
-      skip : (q : ℕ) (x : X) → rising.find nat_cmp q es ≡ Some x → (b : Bool) → eq_by_cmp nat_cmp q e.0 ≡ b → (y : X) × (rising.find nat_cmp q (e ∷ es) ≡ Some y)
-      skip q x is true t = (e.1, ap (λ b. cond b (Some e.1) (rising.find nat_cmp q es)) t)
-      skip q x is false t = (x, ap (λ b. cond b (Some e.1) (rising.find nat_cmp q es)) t ∙ is)
 
   apart_joined : (cs : List (List (Entry (ℕ × X)))) → ((c : ℕ) → map.is_sorted nat_cmp (chain cs c) ≡ true)
       → ((c d q : ℕ) (x y : X) → rising.find nat_cmp q (chain cs c) ≡ Some x → rising.find nat_cmp q (chain cs d) ≡ Some y → c ≡ d)
@@ -98,15 +94,15 @@ pub is_listed : (n : Numbers Slot) (f : Numbers ℕ) (names : Chains (ℕ × ℕ
 is_listed n f names mask a b kept nodes files = record {
   nodes_are = entries_plain (joined a.chains) n.values nodes.entries;
   once = named_once n f names mask kept;
-  nodes_given = λ k node is. go k (map.get n.values k) refl (sym (get_bare n.values k) ∙ is);
+  nodes_given = λ k node is. let s = node_kept n.values k (ap is_some is) in nodes.given k s.0 s.1;
+  nodes_above = λ k node is. let s = node_kept n.values k (ap is_some is) in kept.nodes_above.each k s.0 s.1;
+  next_node_above = kept.nodes_above.next;
   few_nodes = let few = nodes.few in let same = length-map {B = ℕ × Node} (joined a.chains) (λ (e : ℕ × Slot). (e.0, e.1.node)) in omega (arith, few, same);
   files_are = files.entries;
   files_given = files.given;
+  files_above = kept.files_above.each;
+  next_fh_above = kept.files_above.next;
   few_files = files.few;
   there = λ fh node is. ap is_some (get_bare n.values node)
       ∙ some_plain (map.get n.values node) (open_there n.values node (counts_one n names mask f node fh kept is));
 }
-  where
-    go : (k : ℕ) (o : Option Slot) → map.get n.values k ≡ o → {node : Node} → option_map (λ (s : Slot). s.node) o ≡ Some node → k < n.next
-    go k None is h = absurd (cc h)
-    go k (Some s) is h = nodes.given k s is

@@ -1,18 +1,26 @@
 -- Numbered values on their chains.
 use Rattle.std.proofs.Common.{◌≡◌, ◌≢◌, ◌==◌, ℕ, ◌+◌, ◌^◌, ◌<◌, ◌≤◌, Bool, true, false, not, ◌&&◌, ◌||◌, is_some, nat_le, nat_lt, Option, Some, None, IsSome}
-use Rattle.std.proofs.Common.{length, refl, ap, sym, ◌∙◌, arith}
+use Rattle.std.proofs.Common.{cond, length, refl, ap, sym, ◌∙◌, subst, arith}
 use Rattle.std.proofs.lemmas.Bool.Decides.{nat_tests}
 use Rattle.std.proofs.lemmas.Nat.{and_le_r}
 use Rattle.std.proofs.lemmas.Option.{none-some}
 use Rattle.std.specs.Prelude.{[], replicate}
 use Rattle.std.specs.Int.Bits.{bit_and}
-use Rattle.std.specs.Ordering.{nat_cmp}
+use Rattle.std.specs.Cmp.{nat_cmp_total}
+use Rattle.std.specs.Ordering.{nat_cmp, eq_by_cmp}
 use Rattle.std.specs.FinMap as map
 use Rattle.fl_arena.specs.Chains.{Chains, item_count}
-use Rattle.fl_dir.specs.Inside.Numbers.{Numbers, AreNumbered, has_place}
+use Rattle.fl_dir.specs.Inside.Numbers.{Numbers, AreAbove, AreNumbered, has_place}
 use Rattle.fl_dir.specs.Arenas.{values_on}
 use Rattle.fl_dir.specs.Inside.Spread.{at, IsAltered}
-use Rattle.fl_dir.proofs.Spread.{none_of, some_of, counted, get_only, each_altered, none_at, none_sorted, chains_made}
+use Rattle.fl_dir.proofs.Spread.{same_key, none_of, some_of, counted, get_only, each_altered, none_at, none_sorted, chains_made}
+
+pub below_limit : (most n : ℕ) (t : Bool) → (nat_le most n || t) ≡ false → n < most
+below_limit most n t clear = go (nat_le most n) refl clear
+  where
+    go : (b : Bool) → nat_le most n ≡ b → (b || t) ≡ false → n < most
+    go true is h = absurd (cc h)
+    go false is h = grind (arith, nat_tests)
 
 module _ {X : Type 0} where
   pub in_range : (a : Chains (ℕ × X)) (mask next k c : ℕ) → AreNumbered a mask next → c ≡ bit_and k mask → c < length a.chains
@@ -45,6 +53,15 @@ module _ {X : Type 0} where
         (λ d q x found. let under : q < next = kept.below d q x found in omega arith) less;
   }
 
+  pub skipped_numbers : (a : Chains (ℕ × X)) (mask next next1 : ℕ) → AreNumbered a mask next → next ≤ next1 → AreNumbered a mask next1
+  skipped_numbers a mask next next1 kept less = record {
+    chains = kept.chains;
+    few = kept.few;
+    sorted = kept.sorted;
+    home = kept.home;
+    below = λ d q x found. let under : q < next = kept.below d q x found in omega arith;
+  }
+
   -- ---- room
 
   -- if all slots hold items, so many are there
@@ -70,12 +87,8 @@ module _ {X : Type 0} where
   pub room_left : (a : Chains (ℕ × X)) (mask next : ℕ) (b : Bool) → AreNumbered a mask next →
       (nat_le a.slots (map.len (values_on a)) || b) ≡ false → item_count a < a.slots
   room_left a mask next b kept clear =
-      let few : map.len (values_on a) < a.slots = go _ (nat_le a.slots (map.len (values_on a))) refl clear in
+      let few = below_limit a.slots (map.len (values_on a)) b clear in
       omega (arith, as_many a mask next kept, few)
-    where
-      go : (n : ℕ) (t : Bool) → nat_le a.slots n ≡ t → (t || b) ≡ false → n < a.slots
-      go n true is h = absurd (cc h)
-      go n false is h = grind (arith, nat_tests)
 
 -- what a place says
 pub record IsPlace {X : Type 0} (n : Numbers X) (number : ℕ) : Type 0 where
@@ -129,3 +142,36 @@ module _ {X : Type 0} where
     home = λ c q x there. absurd (none-some x (sym (none_at a n slots is c q) ∙ there));
     below = λ c q x there. absurd (none-some x (sym (none_at a n slots is c q) ∙ there));
   }
+
+-- ---- numbers above one that is never given
+
+module _ {X : Type 0} (least : ℕ) (n : Numbers X) (kept : AreAbove least n) where
+  pub above_put : (k : ℕ) (x : X) (next : ℕ) → least < k → least < next → AreAbove least (record n { values = map.insert n.values k x; next = next })
+  above_put k x next high up = record {
+    next = up;
+    each = λ q y is. go q y (eq_by_cmp nat_cmp q k) refl (sym (map.get-insert nat_cmp_total n.values k x q) ∙ is);
+  }
+    where
+      go : (q : ℕ) (y : X) (b : Bool) → eq_by_cmp nat_cmp q k ≡ b → cond b (Some x) (map.get n.values q) ≡ Some y → least < q
+      go q y true same is = subst (λ i. least < i) (sym (same_key q k same)) high
+      go q y false other is = kept.each q y is
+
+  -- another value at a number that has one
+  pub above_changed : (k : ℕ) (s t : X) → map.get n.values k ≡ Some s → AreAbove least (record n { values = map.insert n.values k t })
+  above_changed k s t there = above_put k t n.next (kept.each k s there) kept.next
+
+  pub above_removed : (k : ℕ) → AreAbove least (record n { values = map.remove n.values k })
+  above_removed k = record {
+    next = kept.next;
+    each = λ q y is. go q y (eq_by_cmp nat_cmp q k) (sym (map.get-remove nat_cmp_total n.values k q) ∙ is);
+  }
+    where
+      go : (q : ℕ) (y : X) (b : Bool) → cond b None (map.get n.values q) ≡ Some y → least < q
+      go q y true is = absurd (none-some y is)
+      go q y false is = kept.each q y is
+
+pub above_none : {X : Type 0} (least : ℕ) (n : Numbers X) → n.values ≡ map.empty → least < n.next → AreAbove least n
+above_none least n none up = record {
+  next = up;
+  each = λ q x is. absurd (none-some x (sym (ap (λ m. map.get m q) none ∙ map.get-empty nat_cmp q) ∙ is));
+}

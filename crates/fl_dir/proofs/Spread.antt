@@ -96,6 +96,12 @@ module _ {X : Type 0} where
       go (Some y) h found =
           (0, h ∙ sym (ap (λ p. option_or p (rising.find nat_cmp q (joined rest))) h) ∙ sym (find_after (each (λ e. e.item) es) (joined rest) q) ∙ is)
 
+  -- what is found has a value behind another entry, too
+  pub found_behind : (e : ℕ × X) (es : List (ℕ × X)) (q : ℕ) (x : X) → rising.find nat_cmp q es ≡ Some x → (b : Bool) → eq_by_cmp nat_cmp q e.0 ≡ b →
+      (y : X) × (rising.find nat_cmp q (e ∷ es) ≡ Some y)
+  found_behind e es q x is true t = (e.1, ap (λ b. cond b (Some e.1) (rising.find nat_cmp q es)) t)
+  found_behind e es q x is false t = (x, ap (λ b. cond b (Some e.1) (rising.find nat_cmp q es)) t ∙ is)
+
   -- ---- how many values there are
 
   len_after : (es fs : List (ℕ × X)) → map.is_sorted nat_cmp es ≡ true
@@ -104,7 +110,7 @@ module _ {X : Type 0} where
   len_after [] fs sorted apart = omega arith
   len_after (e ∷ es) fs sorted apart =
       let now = here in
-      let rest = len_after es fs (rest_sorted e es sorted) (λ q x is. let s = skip q x is (eq_by_cmp nat_cmp q e.0) refl in apart q s.0 s.1) in
+      let rest = len_after es fs (rest_sorted e es sorted) (λ q x is. let s = found_behind e es q x is (eq_by_cmp nat_cmp q e.0) refl in apart q s.0 s.1) in
       omega arith
     where
       fresh : rising.find nat_cmp e.0 (es ++ fs) ≡ None
@@ -117,10 +123,6 @@ module _ {X : Type 0} where
           map.len-insert nat_cmp_total (map.from_entries {R = nat_cmp} (es ++ fs)) e.0 e.1
           ∙ ap (λ o. cond (is_some o) (map.len (map.from_entries {R = nat_cmp} (es ++ fs))) (map.len (map.from_entries {R = nat_cmp} (es ++ fs)) + 1))
           (map.get-from_entries nat_cmp_total (es ++ fs) e.0 ∙ fresh)
-
-      skip : (q : ℕ) (x : X) → rising.find nat_cmp q es ≡ Some x → (b : Bool) → eq_by_cmp nat_cmp q e.0 ≡ b → (y : X) × (rising.find nat_cmp q (e ∷ es) ≡ Some y)
-      skip q x is true t = (e.1, ap (λ b. cond b (Some e.1) (rising.find nat_cmp q es)) t)
-      skip q x is false t = (x, ap (λ b. cond b (Some e.1) (rising.find nat_cmp q es)) t ∙ is)
 
   len_joined : (cs : List (List (Entry (ℕ × X)))) → ((c : ℕ) → map.is_sorted nat_cmp (chain cs c) ≡ true)
       → ((c d q : ℕ) (x y : X) → rising.find nat_cmp q (chain cs c) ≡ Some x → rising.find nat_cmp q (chain cs d) ≡ Some y → c ≡ d)

@@ -29,14 +29,19 @@ AreNamedOnce m =
 abbrev pub nodes_on : Chains (ℕ × Slot) → List (ℕ × Node)
 nodes_on a = map (λ e. (e.0, e.1.node)) (joined a.chains)
 
--- These are the nodes and the open files of a directory. All their numbers were given, there are no more than there may
--- be, no name is linked twice, and each open file has its node.
+-- These are the nodes and the open files of a directory. All their numbers were given, those of nodes begin above the
+-- root's and those of open files above 0. There are no more than there may be, no name is linked twice, and each open
+-- file has its node.
 pub record IsListed (d : Listing) (nodes : List (ℕ × Node)) (files : List (ℕ × ℕ)) : Type 0 where
   pub nodes_are : AreEntries nodes d.nodes
   pub once : AreNamedOnce d.nodes
   pub nodes_given : (k : ℕ) (node : Node) → get d.nodes k ≡ Some node → k < d.next_node
+  pub nodes_above : (k : ℕ) (node : Node) → get d.nodes k ≡ Some node → 1 < k
+  pub next_node_above : 1 < d.next_node
   pub few_nodes : length nodes ≤ d.most_nodes
   pub files_are : AreEntries files d.files
   pub files_given : (fh node : ℕ) → get d.files fh ≡ Some node → fh < d.next_fh
+  pub files_above : (fh node : ℕ) → get d.files fh ≡ Some node → 0 < fh
+  pub next_fh_above : 0 < d.next_fh
   pub few_files : length files ≤ d.most_files
   pub there : (fh node : ℕ) → get d.files fh ≡ Some node → is_some (get d.nodes node) ≡ true

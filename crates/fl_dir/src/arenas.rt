@@ -20,6 +20,10 @@ pub struct DirArenas<'a> {
     pub node_chains: usize,
     /// How many chains the arena of open files has.
     pub file_chains: usize,
+    /// The number of the node that is made next.
+    pub next_node: u64,
+    /// The number of the file that is opened next.
+    pub next_fh: u64,
 }
 
 impl Dir {
@@ -32,6 +36,7 @@ impl Dir {
         ensures listed { IsListed self.now (nodes_on result.nodes.now) (joined result.files.now.chains) }
         ensures chains { (result.node_chains ≡ length result.nodes.now.chains)
             × (result.file_chains ≡ length result.files.now.chains) }
+        ensures next { (result.next_node ≡ self.now.next_node) × (result.next_fh ≡ self.now.next_fh) }
         ensures linked { AreLinked result }
     {
         self.names.entries.keeps_links();
@@ -43,6 +48,8 @@ impl Dir {
             files,
             node_chains,
             file_chains,
+            next_node: self.nodes.next(),
+            next_fh: self.files.next(),
         }
     }
 }

@@ -13,6 +13,7 @@ ghost use Rattle.fl_dir.specs.Replies.{
   unlink_reply,
   close_reply,
 };
+ghost use Rattle.fl_dir.specs.Restored.{with_numbers};
 ghost use Rattle.fl_dir.specs.Changes.{
   after_lookup,
   after_reply,
@@ -44,8 +45,8 @@ pub const MOST_OPEN: u32 = 65_536;
 
 /// Names, nodes and open files of a flat directory. Contracts see them as a `Listing`.
 ///
-/// No call but `new`, `begun_at` and `try_clone` takes memory. The tests of each call are made in the order of its definition, and a refusal
-/// changes nothing.
+/// No call but `new` and `try_clone` takes memory. The tests of each call are made in the order of its definition, and
+/// a refusal changes nothing.
 pub struct Dir {
     pub(crate) nodes: Numbered<Slot>,
     pub(crate) names: Names,
@@ -103,26 +104,21 @@ impl Dir {
         requires open_files { (1 ≤ open_files) × (open_files ≤ 65536) }
         ensures { IfOk result (λ d. d ≡ opening_listing files open_files) }
     {
-        Dir::begun_at(alloc, files, open_files, ROOT + 1, 1)
+        Ok(Dir {
+            nodes: Numbered::new(alloc, files as usize, ROOT + 1)?,
+            names: Names::new(alloc, files as usize)?,
+            files: Numbered::new(alloc, open_files as usize, 1)?,
+        })
     }
 
-    /// As `new`, but the next node and the next fh get these numbers.
-    pub fn begun_at(
-        alloc: Global,
-        files: u32,
-        open_files: u32,
-        node: u64,
-        fh: u64,
-    ) -> Result<Dir, NoMemory>
-        requires files { files ≤ 65536 }
-        requires open_files { (1 ≤ open_files) × (open_files ≤ 65536) }
-        ensures { IfOk result (λ d. d ≡ record (opening_listing files open_files) { next_node = node; next_fh = fh }) }
+    /// The next node and the next fh get these numbers. Only `restore_node` and `restore_file` fill those between.
+    pub fn begin_at(&mut self, node: u64, fh: u64)
+        requires node { self.old.next_node ≤ node }
+        requires fh { self.old.next_fh ≤ fh }
+        ensures { self.new ≡ with_numbers self.old node fh }
     {
-        Ok(Dir {
-            nodes: Numbered::new(alloc, files as usize, node)?,
-            names: Names::new(alloc, files as usize)?,
-            files: Numbered::new(alloc, open_files as usize, fh)?,
-        })
+        self.nodes.skip_to(node);
+        self.files.skip_to(fh);
     }
 
     /// The same directory once more. It fails only if memory runs out.

@@ -112,6 +112,13 @@ impl<T: Copy> Numbered<T> {
         (&self.entries, self.mask + 1)
     }
 
+    /// The number that comes next.
+    pub(crate) fn next(&self) -> u64
+        ensures { result ≡ self.now.next }
+    {
+        self.next
+    }
+
     /// Whether so many values are there as there may be, or all numbers are given.
     pub(crate) fn is_full(&self) -> bool
         ensures { result ≡ is_full self.now }
@@ -134,6 +141,14 @@ impl<T: Copy> Numbered<T> {
         push(&mut self.entries, chain, number, value);
         self.next += 1;
         number
+    }
+
+    /// This number comes next. Only `put` fills those between.
+    pub(crate) fn skip_to(&mut self, number: u64)
+        requires { self.old.next ≤ number }
+        ensures { self.new ≡ record self.old { next = number } }
+    {
+        self.next = number;
     }
 
     /// Whether a number that was given before can have a value again: it has none, and there is room.

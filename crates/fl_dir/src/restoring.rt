@@ -4,7 +4,7 @@ ghost use Rattle.std.specs.FinMap as map;
 ghost use Rattle.fl_dir.specs.Directory.{linked};
 ghost use Rattle.fl_dir.specs.Restored.{has_node_place, has_file_place, fits_node, fits_file, with_node, with_file};
 
-use crate::dir::Dir;
+use crate::dir::{Dir, ROOT};
 use crate::node::Node;
 use crate::nodes::Slot;
 
@@ -15,17 +15,10 @@ impl Dir {
         ensures after { result ≡ true → self.new ≡ with_node self.old number node.now }
         ensures refused { result ≡ false → self.new ≡ self.old }
     {
-        if !self.has_node_place(number) {
+        if !self.has_node_place(number) || (node.linked && self.linked(&node.name).is_some()) {
             return false;
         }
-        if !node.linked {
-            self.put_unlinked(number, node);
-            return true;
-        }
-        if self.linked(&node.name).is_some() {
-            return false;
-        }
-        self.put_linked(number, node);
+        self.put_node(number, node);
         true
     }
 
@@ -45,19 +38,19 @@ impl Dir {
     fn has_node_place(&self, number: u64) -> bool
         ensures { result ≡ has_node_place self.now number }
     {
-        self.nodes.has_place(number)
+        number > ROOT && self.nodes.has_place(number)
     }
 
     fn has_file_place(&self, fh: u64) -> bool
         ensures { result ≡ has_file_place self.now fh }
     {
-        self.files.has_place(fh)
+        fh != 0 && self.files.has_place(fh)
     }
 
-    // A node that isn't linked.
-    fn put_unlinked(&mut self, number: u64, node: &Node)
+    // A node, under a name that is free if it has it.
+    fn put_node(&mut self, number: u64, node: &Node)
         requires place { has_node_place self.old number ≡ true }
-        requires unlinked { node.now.linked ≡ false }
+        requires free { node.now.linked ≡ true → linked self.old node.now.name ≡ None }
         ensures { self.new ≡ with_node self.old number node.now }
     {
         self.nodes.put(
@@ -67,23 +60,9 @@ impl Dir {
                 fhs: 0,
             },
         );
-    }
-
-    // A node that is linked, under a name that is free.
-    fn put_linked(&mut self, number: u64, node: &Node)
-        requires place { has_node_place self.old number ≡ true }
-        requires has_it { node.now.linked ≡ true }
-        requires free { linked self.old node.now.name ≡ None }
-        ensures { self.new ≡ with_node self.old number node.now }
-    {
-        self.nodes.put(
-            number,
-            Slot {
-                node: *node,
-                fhs: 0,
-            },
-        );
-        self.names.link_again(&node.name, number);
+        if node.linked {
+            self.names.link_again(&node.name, number);
+        }
     }
 
     // An fh on a node that is there.

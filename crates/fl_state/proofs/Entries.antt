@@ -99,6 +99,9 @@ module _ {X : Type 0} where
       grown true n k is = omega (arith, is)
       grown false n k is = omega (arith, is)
 
+pub lower : (a b : ℕ) → a < b → nat_lt a b ≡ true
+lower a b h = grind (arith, nat_tests)
+
 -- ---- a node fits those before it
 
 -- what a search finds among entries that rise passes its test, and stands there
@@ -133,10 +136,10 @@ truth true t = refl
 truth false t = absurd t
 
 pub node_fits : (d : Listing) (front rest : List (ℕ × Node)) (number : ℕ) (node : Node) → AreEntries (front ++ (number, node) ∷ rest) d.nodes
-    → AreNamedOnce d.nodes → number < d.next_node → length (front ++ (number, node) ∷ rest) ≤ d.most_nodes
+    → AreNamedOnce d.nodes → 1 < number → number < d.next_node → length (front ++ (number, node) ∷ rest) ≤ d.most_nodes
     → fits_node (record d { nodes = put_all front map.empty }) number node ≡ true
-node_fits d front rest number node list once given few =
-    λ i. (lower number d.next_node given i && (not (is_some (here i)) && room i)) && not (name i)
+node_fits d front rest number node list once high given few =
+    λ i. (lower 1 number high i && (lower number d.next_node given i && (not (is_some (here i)) && room i))) && not (name i)
   where
     told : FinMap nat_cmp Node
     told = put_all front map.empty
@@ -155,9 +158,6 @@ node_fits d front rest number node list once given few =
 
     here : map.get told number ≡ None
     here = get_told number ∙ none
-
-    lower : (a b : ℕ) → a < b → nat_lt a b ≡ true
-    lower a b h = grind (arith, nat_tests)
 
     room : nat_lt (map.len told) d.most_nodes ≡ true
     room =

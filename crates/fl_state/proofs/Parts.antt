@@ -5,7 +5,7 @@ use Rattle.std.proofs.lemmas.Bool.Decides.{nat_tests}
 use Rattle.std.proofs.lemmas.List.Sums.{fold-append}
 use Rattle.std.specs.List.{AllByRecursion}
 use Rattle.fl_core.specs.Replies.{set_reply, room_reply}
-use Rattle.fl_core.specs.Restored.{Part, a_node, a_file, a_lock, a_request, begun, told_part, with_part, fits, fits_lock, is_done, stroke_of_run}
+use Rattle.fl_core.specs.Restored.{Part, a_node, a_file, a_lock, a_request, begun, told_part, with_part, fits, fits_lock, is_done}
 use Rattle.fl_core.specs.State.{State, Snapshot, opening, snapshot_of}
 use Rattle.fl_order.specs.declared.errno.Errno.{Errno}
 use Rattle.fl_order.specs.declared.errno.Errno.TheVariants.{EAGAIN}
@@ -15,6 +15,7 @@ use Rattle.fl_marks.specs.Conflict.{conflicts, IsLawful}
 use Rattle.fl_marks.specs.Marking.{Marking, Stroke, stroked}
 use Rattle.fl_marks.specs.declared.lock.Mark.{Mark}
 use Rattle.fl_state.specs.Telling.{told_by, AreTold, none, one, IsFit}
+use Rattle.fl_ranges.specs.Setting.{meant}
 use Rattle.fl_waiting.specs.LockRequest.{is_malformed}
 use Rattle.fl_waiting.specs.Waiting.{waits, is_parked, conflicts_with_held, passes, AllBehind, AllWait, AreApart}
 use Rattle.fl_waiting.specs.declared.parked.Request.{Request}
@@ -148,7 +149,7 @@ module _ (struck : (m : Marking) (s : Stroke) → ((mark : Mark) → s.mark ≡ 
   one_more p (a_lock r) fit ok =
       let parts = both (length p.view.parked == 0) (fits_lock p.rules.runs p.marking r) ok in
       let done = both (is_range r.start r.end) _ parts.1 in
-      let s = stroke_of_run r in
+      let s = meant r in
       let free = no_conflict p.rules.runs p.marking s (Some r.mark) done.1 in
       record {
         waiting = subst (AllWait p.rules (stroked s p.marking)) (sym (none_left p.view.parked parts.0)) tt;

@@ -2,7 +2,7 @@
 use Rattle.std.proofs.Common.{◌≡◌, ℕ, zero, suc, ◌+◌, ◌<◌, ◌≤◌, true, List, [], ◌∷◌, ◌++◌, map, length, take, drop, slice_index_or}
 use Rattle.std.proofs.Common.{refl, ap, sym, subst, ◌∙◌, arith}
 use Rattle.std.proofs.lemmas.List.{map-append, take-append-drop}
-use Rattle.fl_core.specs.Restored.{Part, begun, fits, with_part}
+use Rattle.fl_core.specs.Restored.{begun, fits, with_part}
 use Rattle.fl_core.specs.State.{Snapshot, snapshot_of}
 use Rattle.fl_order.specs.declared.state_part.StatePart.{StatePart}
 use Rattle.fl_state.specs.Parts.{part_of}

@@ -31,7 +31,7 @@ use Rattle.fl_waiting.specs.Waiting.{waits, is_parked, AllBehind, AllWait, AreAp
 use Rattle.fl_waiting.specs.declared.parked.Request.{Request}
 use Rattle.fl_waiting.specs.declared.rules.Rules.{Rules}
 use Rattle.fl_state.proofs.Parts.{shown}
-use Rattle.fl_state.proofs.Entries.{put_all, apart_front, find_after, fresh, get_put, is_put, len_put, node_fits, or_none, own_key}
+use Rattle.fl_state.proofs.Entries.{lower, put_all, apart_front, find_after, fresh, get_put, is_put, len_put, node_fits, or_none, own_key}
 
 -- ---- what parts show
 
@@ -92,9 +92,6 @@ module _ (rules : Rules) (node fh : ℕ) where
 
 -- ---- each fits
 
-lower : (a b : ℕ) → a < b → nat_lt a b ≡ true
-lower a b h = grind (arith, nat_tests)
-
 -- an entry of a map stands there
 own_entry : {X : Type 0} (m : FinMap nat_cmp X) (front rest : List (ℕ × X)) (k : ℕ) (x : X) → AreEntries (front ++ (k, x) ∷ rest) m → finite.get m k ≡ Some x
 own_entry m front rest k x list =
@@ -102,10 +99,10 @@ own_entry m front rest k x list =
     ∙ ap (λ b. cond b (Some x) (finite.find nat_cmp k rest)) (own_key k)
 
 -- there is a place for it behind those before it
-place : {X : Type 0} (m : FinMap nat_cmp X) (front rest : List (ℕ × X)) (k : ℕ) (x : X) (next most : ℕ) → AreEntries (front ++ (k, x) ∷ rest) m → k < next
+place : {X : Type 0} (m : FinMap nat_cmp X) (front rest : List (ℕ × X)) (k : ℕ) (x : X) (next most : ℕ) → AreEntries (front ++ (k, x) ∷ rest) m → 0 < k → k < next
     → length (front ++ (k, x) ∷ rest) ≤ most
-    → (nat_lt k next && (not (finite.contains_key (put_all front finite.empty) k) && nat_lt (finite.len (put_all front finite.empty)) most)) ≡ true
-place {X = X} m front rest k x next most list given few = λ i. lower k next given i && (not (is_some (here i)) && room i)
+    → (nat_lt 0 k && (nat_lt k next && (not (finite.contains_key (put_all front finite.empty) k) && nat_lt (finite.len (put_all front finite.empty)) most))) ≡ true
+place {X = X} m front rest k x next most list high given few = λ i. lower 0 k high i && (lower k next given i && (not (is_some (here i)) && room i))
   where
     ahead : NoTwice front
     ahead = apart_front front ((k, x) ∷ rest) list.apart
@@ -215,16 +212,18 @@ module _ (p : Snapshot) (nodes : List (ℕ × Node)) (files : List (ℕ × ℕ))
 
   nodes_fit : AreTold p.rules p.view.directory.next_node p.view.directory.next_fh node_parts
   nodes_fit = section p.rules p.view.directory.next_node p.view.directory.next_fh (λ (e : ℕ × Node). a_node e.0 e.1) [] nodes none (λ front rest e is.
+      let list = subst (λ l. AreEntries l p.view.directory.nodes) is w.listed.nodes_are in
+      let own = own_entry p.view.directory.nodes front rest e.0 e.1 list in
       ap (λ q. fits q (a_node e.0 e.1)) (nodes_shown front first)
-      ∙ node_fits (record first.view.directory { nodes = p.view.directory.nodes }) front rest e.0 e.1 (subst (λ l. AreEntries l p.view.directory.nodes) is w.listed.nodes_are) w.listed.once
-      (w.listed.nodes_given e.0 e.1 (own_entry p.view.directory.nodes front rest e.0 e.1 (subst (λ l. AreEntries l p.view.directory.nodes) is w.listed.nodes_are)))
+      ∙ node_fits (record first.view.directory { nodes = p.view.directory.nodes }) front rest e.0 e.1 list w.listed.once
+      (w.listed.nodes_above e.0 e.1 own) (w.listed.nodes_given e.0 e.1 own)
       (subst (λ l. length l ≤ p.rules.files) is (subst (λ n. length nodes ≤ n) w.ruled.nodes w.listed.few_nodes)))
 
   files_fit : AreTold p.rules p.view.directory.next_node p.view.directory.next_fh before_locks
   files_fit = section p.rules p.view.directory.next_node p.view.directory.next_fh (λ (e : ℕ × ℕ). a_file e.0 e.1) node_parts files nodes_fit (λ front rest e is.
       let list = subst (λ l. AreEntries l p.view.directory.files) is w.listed.files_are in
       let own = own_entry p.view.directory.files front rest e.0 e.1 list in
-      let free = place p.view.directory.files front rest e.0 e.1 p.view.directory.next_fh p.rules.open_files list (w.listed.files_given e.0 e.1 own)
+      let free = place p.view.directory.files front rest e.0 e.1 p.view.directory.next_fh p.rules.open_files list (w.listed.files_above e.0 e.1 own) (w.listed.files_given e.0 e.1 own)
       (subst (λ l. length l ≤ p.rules.open_files) is (subst (λ n. length files ≤ n) w.ruled.files w.listed.few_files)) in
       let there : finite.contains_key (put_all nodes finite.empty) e.1 ≡ true = ap (λ m. is_some (finite.get m e.1)) (is_put nodes p.view.directory.nodes w.listed.nodes_are) ∙ w.listed.there e.0 e.1 own in
       ap (λ q. fits (shown_by q (map (λ e. a_file e.0 e.1) front)) (a_file e.0 e.1)) nodes_are

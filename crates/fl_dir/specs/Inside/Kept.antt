@@ -12,7 +12,7 @@ use Rattle.fl_dir.specs.declared.nodes.Slot.{Slot}
 use Rattle.fl_dir.specs.Directory.{Listing, is_named}
 use Rattle.fl_dir.specs.OpenFiles.{lives}
 use Rattle.fl_dir.specs.Changes.{counted_down}
-use Rattle.fl_dir.specs.Inside.Numbers.{Numbers}
+use Rattle.fl_dir.specs.Inside.Numbers.{Numbers, AreAbove}
 use Rattle.fl_dir.specs.Inside.Spread.{at, AreSorted}
 
 -- a hash that goes on with one more byte (FNV-1a: the prime of its 32 bits)
@@ -66,7 +66,7 @@ pub record AreNamed (slots : FinMap nat_cmp Slot) (names : Chains (ℕ × ℕ)) 
   pub sorted : AreSorted names
   pub linked : (c number : ℕ) → at names c number ≡ hash_on mask c (name_in (get slots number))
 
--- no name is linked twice, and each count is right
+-- no name is linked twice, each count is right, and neither the root's number nor fh 0 is given
 pub record IsKept (nodes : Numbers Slot) (names : Chains (ℕ × ℕ)) (mask : ℕ) (files : Numbers ℕ) : Type 0 where
   pub named : AreNamed nodes.values names mask
   pub room : names.slots ≡ nodes.limit
@@ -74,3 +74,5 @@ pub record IsKept (nodes : Numbers Slot) (names : Chains (ℕ × ℕ)) (mask : �
       → name_in (get nodes.values k) ≡ Some name → name_in (get nodes.values l) ≡ Some name → k ≡ l
   pub counts : (node : ℕ) → open_in (get nodes.values node) ≡ open_count files.values node
   pub few : files.limit ≤ 2 ^ 16
+  pub nodes_above : AreAbove 1 nodes
+  pub files_above : AreAbove 0 files

@@ -47,3 +47,8 @@ pub record IsHome {X : Type 0} (a : Chains (ℕ × X)) (n : Numbers X) : Type 0 
   pub entries : AreEntries (joined a.chains) n.values
   pub given : (q : ℕ) (x : X) → get n.values q ≡ Some x → q < n.next
   pub few : length (joined a.chains) ≤ n.limit
+
+-- all numbers, and the one that comes next, are above this one
+pub record AreAbove {X : Type 0} (least : ℕ) (n : Numbers X) : Type 0 where
+  pub next : least < n.next
+  pub each : (q : ℕ) (x : X) → get n.values q ≡ Some x → least < q

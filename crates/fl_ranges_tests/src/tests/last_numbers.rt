@@ -1,5 +1,7 @@
 //! The calls of a directory whose numbers are at their ends, which no caller reaches soon.
 
+ghost use Rattle.std.specs.Prelude.{◌<◌};
+
 use fl_dir::{Closed, Dir, Node};
 use fl_order::{Answer, Attr, Errno, Name};
 use std::alloc::Global;
@@ -9,8 +11,12 @@ use std::process::Abort;
 const LAST: u64 = u64::MAX - 1;
 
 // An empty directory that goes on with these numbers.
-fn directory_at(rt: &impl Abort, alloc: Global, next_node: u64, next_fh: u64) -> Dir {
-    Dir::begun_at(alloc, 256, 1024, next_node, next_fh).expect(rt, "memory")
+fn directory_at(rt: &impl Abort, alloc: Global, next_node: u64, next_fh: u64) -> Dir
+    requires { (1 < next_node) × (0 < next_fh) }
+{
+    let mut dir = Dir::new(alloc, 256, 1024).expect(rt, "memory");
+    dir.begin_at(next_node, next_fh);
+    dir
 }
 
 // What is kept of a file that was made so, whose lookups can't be counted up any more.
@@ -69,7 +75,9 @@ fn lookups_are_counted_to_their_last_count(rt: HostRuntime) {
 }
 
 fn counts_lookups(rt: &impl Abort, dir: &mut Dir, a: &Name) {
-    assert!(rt; dir.restore_node(2, &looked_up_to_the_last(a)));
+    let node = looked_up_to_the_last(a);
+    assert!(rt; !dir.restore_node(0, &node) && !dir.restore_node(1, &node));
+    assert!(rt; dir.restore_node(2, &node) && !dir.restore_file(0, 2));
     is_refused(rt, &dir.lookup(1, a), Errno::ENFILE);
     is_refused(rt, &made(dir, a), Errno::EEXIST);
     is_refused(rt, &opened(dir, a), Errno::ENFILE);

@@ -18,6 +18,8 @@ returns-clause-hold c =
     record {
       nodes = c.arenas.ensures.nodes ∙ ap (λ (t : Snapshot). t.view.directory.nodes) shown;
       files = c.arenas.ensures.files ∙ ap (λ (t : Snapshot). t.view.directory.files) shown;
+      next_node = c.arenas.ensures.next.0 ∙ ap (λ (t : Snapshot). t.view.directory.next_node) shown;
+      next_fh = c.arenas.ensures.next.1 ∙ ap (λ (t : Snapshot). t.view.directory.next_fh) shown;
       locks = c.rows.ensures.marking ∙ ap (λ (t : Snapshot). t.marking) shown;
       parked = c.arena.ensures.requests ∙ ap (λ (t : Snapshot). t.view.parked) shown;
     }

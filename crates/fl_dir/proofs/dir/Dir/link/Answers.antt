@@ -1,6 +1,5 @@
-use Rattle.std.proofs.Common.{◌≡◌, ◌∙◌, ◌+◌, ◌<◌, ◌≤◌, ◌||◌, ◌==◌, Bool, true, false, ℕ, nat_le, Some, None, option_map, ap, sym, subst, refl, arith}
+use Rattle.std.proofs.Common.{◌≡◌, ◌∙◌, ◌+◌, ◌<◌, ◌≤◌, ◌||◌, ◌==◌, false, nat_le, Some, None, option_map, ap, sym, subst, refl, arith}
 use Rattle.std.specs.FinMap.{get, insert, len}
-use Rattle.std.proofs.lemmas.Bool.Decides.{nat_tests}
 use Rattle.fl_dir.specs.Directory.{Listing, linked, nodes_full}
 use Rattle.std.specs.Int.Bits.{bit_and}
 use Rattle.fl_dir.specs.declared.nodes.Slot.{Slot}
@@ -8,14 +7,8 @@ use Rattle.fl_dir.specs.Inside.Spread.{IsAltered}
 use Rattle.fl_dir.specs.Inside.Kept.{name_in, hash_of, hash_on, IsKept}
 use Rattle.fl_dir.proofs.Bare.{bare_insert, get_bare, len_bare}
 use Rattle.fl_dir.proofs.Kept.{seen, few_names, is_free, linked_more, so_linked}
+use Rattle.fl_dir.proofs.Numbers.{below_limit}
 use Rattle.fl_dir.proofs.dir.Dir.link.Goals as goal
-
-less : (a b : ℕ) (t : Bool) → (nat_le a b || t) ≡ false → b < a
-less a b t clear = go (nat_le a b) refl clear
-  where
-    go : (s : Bool) → nat_le a b ≡ s → (s || t) ≡ false → b < a
-    go true is h = absurd (cc h)
-    go false is h = grind (arith, nat_tests)
 
 pub push-number-requires : goal.push-number-requires
 push-number-requires c =
@@ -33,7 +26,7 @@ pub link-requires-clause-room : goal.link-requires-clause-room
 link-requires-clause-room c =
     let own = c.self.inside in
     let most = few_names own.nodes own.names.entries own.names.mask own.files c.self.invariant in
-    let room : len own.nodes.values < own.nodes.limit = less own.nodes.limit (len own.nodes.values) (own.nodes.next == 18446744073709551615)
+    let room : len own.nodes.values < own.nodes.limit = below_limit own.nodes.limit (len own.nodes.values) (own.nodes.next == 18446744073709551615)
     (ap (λ n. nat_le own.nodes.limit n || (own.nodes.next == 18446744073709551615)) (sym (len_bare own.nodes.values))
     ∙ subst (λ d. nodes_full d ≡ false) (sym c.self.view_is) c.requires.room) in
     let same = c.self.invariant.room in
@@ -52,6 +45,7 @@ invariant_of-self c =
     subst (λ m. IsKept m c.link.new.self.entries c.link.new.self.mask own.files) (sym c.push-number.ensures.after)
     (subst (λ m. IsKept (record own.nodes { values = insert own.nodes.values own.nodes.next (record { node = c.args.node.now; fhs = 0 }); next = own.nodes.next + 1 }) c.link.new.self.entries m own.files) (sym c.link.ensures.mask)
     (linked_more own.nodes own.names.entries c.link.new.self.entries own.names.mask own.files own.nodes.next (own.nodes.next + 1) (record { node = c.args.node.now; fhs = 0 }) c.args.name.now c.self.invariant
+    c.self.invariant.nodes_above.next (let up = c.self.invariant.nodes_above.next in omega arith)
     (c.push-number.ensures.above own.nodes.next (omega arith)) (so_linked c.args.node.now c.args.name.now c.requires.has_it c.requires.named) refl (is_free own.nodes.values c.args.name.now free)
     (subst (λ k. IsAltered own.names.entries c.link.new.self.entries (bit_and (hash_of c.args.name.now) own.names.mask) k (Some (hash_of c.args.name.now)))
     c.push-number.ensures.number c.link.ensures.linked)))

@@ -25,7 +25,8 @@ invariant_of-self c =
     let slot : Slot = record { node = c.at_mut.result.now.node; fhs = c.at_mut.result.now.fhs + 1 } in
     subst (λ f. IsKept (record own.nodes { values = insert own.nodes.values c.args.node slot }) own.names.entries own.names.mask f) (sym c.push.ensures.after)
     (opened own.nodes own.names.entries own.names.mask own.files c.args.node own.files.next (own.files.next + 1) c.at_mut.result.now slot c.self.invariant
-    c.at_mut.ensures.value refl refl (c.push.ensures.above own.files.next (omega arith)))
+    c.at_mut.ensures.value refl refl (c.push.ensures.above own.files.next (omega arith))
+    c.self.invariant.files_above.next (let up = c.self.invariant.files_above.next in omega arith))
 
 pub returns-clause-after : goal.returns-clause-after
 returns-clause-after c =
