@@ -24,6 +24,7 @@ abbrev pub first_tolds : List Line → List Told
 first_tolds [] = []
 first_tolds (line.Told told ∷ lines) = told ∷ first_tolds lines
 first_tolds (line.Asked worker order ∷ lines) = []
+first_tolds (line.State state ∷ lines) = []
 
 -- the orders that the lines ask for this worker, each with the replies that stand behind it
 abbrev pub answered_by : ℕ → List Line → List Answered
@@ -31,6 +32,7 @@ answered_by worker [] = []
 answered_by worker (line.Asked asker order ∷ lines) =
     (if asker == worker then answered order (first_tolds lines) ∷ [] else []) ++ answered_by worker lines
 answered_by worker (line.Told told ∷ lines) = answered_by worker lines
+answered_by worker (line.State state ∷ lines) = answered_by worker lines
 
 -- an order is answered behind all that was answered before
 pub record IsAnsweredLast (before : List Answered) (order : Order) (tolds : List Told) (now : List Answered)

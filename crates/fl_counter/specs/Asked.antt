@@ -12,6 +12,7 @@ Orders = List Order
 abbrev pub order_asked : Line → Orders
 order_asked (line.Asked worker order) = order ∷ []
 order_asked (line.Told told) = []
+order_asked (line.State state) = []
 
 -- the orders that the lines ask
 abbrev pub asked : List Line → Orders
@@ -21,6 +22,7 @@ asked lines = flat_map order_asked lines
 abbrev pub order_asked_by : ℕ → Line → Orders
 order_asked_by worker (line.Asked asker order) = if asker == worker then order ∷ [] else []
 order_asked_by worker (line.Told told) = []
+order_asked_by worker (line.State state) = []
 
 -- the orders that the lines ask for this worker
 abbrev pub asked_by : ℕ → List Line → Orders

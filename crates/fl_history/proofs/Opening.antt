@@ -27,6 +27,7 @@ use Rattle.fl_order.specs.declared.body.Body.TheVariants as body
 use Rattle.fl_order.specs.declared.kind.OpKind.{OpKind}
 use Rattle.fl_order.specs.declared.order.Op.{Op}
 use Rattle.fl_order.specs.declared.order.Order.{Order}
+use Rattle.fl_order.specs.declared.state_part.StateLine.{StateLine}
 
 -- ---- lists with more behind them
 
@@ -112,10 +113,11 @@ ask_stays names more (a ∷ asks) zero n =
     ap (line_or_none (line_asking a)) (op_stays names more a.op n.0.named)
 ask_stays names more (a ∷ asks) (suc at) n = ask_stays names more asks at n.1
 
-module _ (asks : List ShortOrder) (answers : List Answered) (names : List ℕ) (asks′ : List ShortOrder) (answers′ : List Answered) (names′ : List ℕ)
-    (a : Begins asks asks′) (t : Begins answers answers′) (n : Begins names names′) where
-  opened_stays : (r : ShortLine) → IsThere (length asks) (length answers) r → AllByRecursion (λ (a : ShortOrder). LeadsBack names a.op) asks
-      → opened asks′ answers′ names′ r ≡ opened asks answers names r
+module _ (asks : List ShortOrder) (answers : List Answered) (states : List StateLine) (names : List ℕ) (asks′ : List ShortOrder) (answers′ : List Answered)
+    (states′ : List StateLine) (names′ : List ℕ)
+    (a : Begins asks asks′) (t : Begins answers answers′) (s : Begins states states′) (n : Begins names names′) where
+  opened_stays : (r : ShortLine) → IsThere (length asks) (length answers) (length states) r → AllByRecursion (λ (a : ShortOrder). LeadsBack names a.op) asks
+      → opened asks′ answers′ states′ names′ r ≡ opened asks answers states names r
   opened_stays (record_of.Asked at) there named =
       (λ i. line_or_none (asked_line (n.is i)) (slice_get (a.is i) at))
       ∙ ap (λ o. line_or_none (asked_line (names ++ n.rest)) o) (get_left asks a.rest at there)
@@ -124,31 +126,34 @@ module _ (asks : List ShortOrder) (answers : List Answered) (names : List ℕ) (
       ap (λ l. line_or_none answered_line (slice_get l at)) t.is ∙ ap (line_or_none answered_line) (get_left answers t.rest at there)
   opened_stays (record_of.Done unique) there named = refl
   opened_stays (record_of.Failed error unique) there named = refl
+  opened_stays (record_of.State at) there named =
+      ap (λ l. line_or_none line.State (slice_get l at)) s.is ∙ ap (line_or_none line.State) (get_left states s.rest at there)
 
-  lines_stay : (records : List ShortLine) → AreKept records asks answers names
-      → opened_all asks′ answers′ names′ records ≡ opened_all asks answers names records
+  lines_stay : (records : List ShortLine) → AreKept records asks answers states names
+      → opened_all asks′ answers′ states′ names′ records ≡ opened_all asks answers states names records
   lines_stay [] k = refl
   lines_stay (r ∷ records) k =
       (λ i. opened_stays r k.there.0 k.back i ∷ lines_stay records (record { there = k.there.1; back = k.back }) i)
 
   -- one line more
-  pub one_line : (records : List ShortLine) (r : ShortLine) (l : Line) → AreKept records asks answers names → opened asks′ answers′ names′ r ≡ l
-      → opened_all asks′ answers′ names′ (records ++ r ∷ []) ≡ opened_all asks answers names records ++ l ∷ []
+  pub one_line : (records : List ShortLine) (r : ShortLine) (l : Line) → AreKept records asks answers states names → opened asks′ answers′ states′ names′ r ≡ l
+      → opened_all asks′ answers′ states′ names′ (records ++ r ∷ []) ≡ opened_all asks answers states names records ++ l ∷ []
   one_line records r l k e =
-      map-append (opened asks′ answers′ names′) records (r ∷ []) ∙ (λ i. lines_stay records k i ++ e i ∷ [])
+      map-append (opened asks′ answers′ states′ names′) records (r ∷ []) ∙ (λ i. lines_stay records k i ++ e i ∷ [])
 
-  there_still : (r : ShortLine) → IsThere (length asks) (length answers) r → IsThere (length asks′) (length answers′) r
+  there_still : (r : ShortLine) → IsThere (length asks) (length answers) (length states) r → IsThere (length asks′) (length answers′) (length states′) r
   there_still (record_of.Asked at) h = omega (arith, h, begins_length asks asks′ a)
   there_still (record_of.Answered at) h = omega (arith, h, begins_length answers answers′ t)
   there_still (record_of.Done unique) h = tt
   there_still (record_of.Failed error unique) h = tt
+  there_still (record_of.State at) h = omega (arith, h, begins_length states states′ s)
 
   -- what is kept goes on to lead to what is there
-  pub kept_still : (records : List ShortLine) (r : ShortLine) → AreKept records asks answers names → IsThere (length asks′) (length answers′) r
-      → AllByRecursion (λ (a : ShortOrder). LeadsBack names′ a.op) a.rest → AreKept (records ++ r ∷ []) asks′ answers′ names′
+  pub kept_still : (records : List ShortLine) (r : ShortLine) → AreKept records asks answers states names → IsThere (length asks′) (length answers′) (length states′) r
+      → AllByRecursion (λ (a : ShortOrder). LeadsBack names′ a.op) a.rest → AreKept (records ++ r ∷ []) asks′ answers′ states′ names′
   kept_still records r k there more = record {
-    there = all_more (IsThere (length asks′) (length answers′)) records (r ∷ [])
-        (all_as (IsThere (length asks) (length answers)) (IsThere (length asks′) (length answers′)) records there_still k.there) (there, tt);
+    there = all_more (IsThere (length asks′) (length answers′) (length states′)) records (r ∷ [])
+        (all_as (IsThere (length asks) (length answers) (length states)) (IsThere (length asks′) (length answers′) (length states′)) records there_still k.there) (there, tt);
     back = subst (AllByRecursion (λ (a : ShortOrder). LeadsBack names′ a.op)) (sym a.is)
         (all_more (λ (a : ShortOrder). LeadsBack names′ a.op) asks a.rest
         (all_as (λ (a : ShortOrder). LeadsBack names a.op) (λ (a : ShortOrder). LeadsBack names′ a.op) asks
@@ -157,46 +162,74 @@ module _ (asks : List ShortOrder) (answers : List Answered) (names : List ℕ) (
 
 -- ---- in the words of the calls
 
-pub asked_kept : (records records′ : List ShortLine) (asks asks′ : List ShortOrder) (answers : List Answered) (names names′ : List ℕ) (worker : ℕ) (o : Order)
-    (op : ShortOp) (new : ShortOrder) → AreKept records asks answers names → Begins names names′ → NamesAreThere names′ op
+pub asked_kept : (records records′ : List ShortLine) (asks asks′ : List ShortOrder) (answers : List Answered) (states : List StateLine) (names names′ : List ℕ)
+    (worker : ℕ) (o : Order) (op : ShortOp) (new : ShortOrder) → AreKept records asks answers states names → Begins names names′ → NamesAreThere names′ op
     → opened_parts names′ op ≡ parts_of o.op → new ≡ ask_of worker o op → asks′ ≡ asks ++ new ∷ []
     → records′ ≡ records ++ record_of.Asked (length asks) ∷ []
-    → AreKept records′ asks′ answers names′ × (opened_all asks′ answers names′ records′ ≡ opened_all asks answers names records ++ line.Asked worker o ∷ [])
-asked_kept records records′ asks asks′ answers names names′ worker o op new k n named of is joins last =
+    → AreKept records′ asks′ answers states names′
+    × (opened_all asks′ answers states names′ records′ ≡ opened_all asks answers states names records ++ line.Asked worker o ∷ [])
+asked_kept records records′ asks asks′ answers states names names′ worker o op new k n named of is joins last =
     let a : Begins asks asks′ = record { rest = new ∷ []; is = joins } in
     let t = begins_itself answers in
+    let s = begins_itself states in
     let inside : length asks < length asks′ = subst (λ l. length asks < length l) (sym joins) (omega (arith, length-append asks (new ∷ []))) in
     let back : LeadsBack names′ new.op = subst (λ (x : ShortOrder). LeadsBack names′ x.op) (sym is) (leads_back names′ o op named of) in
     let found : line_or_none (asked_line names′) (slice_get asks′ (length asks)) ≡ line.Asked worker o =
     ap (λ l. line_or_none (asked_line names′) (slice_get l (length asks))) joins
     ∙ ap (line_or_none (asked_line names′)) (get_right asks (new ∷ []) (length asks) 0 (omega arith))
     ∙ ap (asked_line names′) is ∙ asked_back names′ o op named of worker in
-    subst (λ rs. AreKept rs asks′ answers names′ × (opened_all asks′ answers names′ rs ≡ opened_all asks answers names records ++ line.Asked worker o ∷ []))
+    subst (λ rs. AreKept rs asks′ answers states names′
+    × (opened_all asks′ answers states names′ rs ≡ opened_all asks answers states names records ++ line.Asked worker o ∷ []))
     (sym last) (
-      kept_still asks answers names asks′ answers names′ a t n records (record_of.Asked (length asks)) k inside (back, tt),
-      one_line asks answers names asks′ answers names′ a t n records (record_of.Asked (length asks)) (line.Asked worker o) k found,
+      kept_still asks answers states names asks′ answers states names′ a t s n records (record_of.Asked (length asks)) k inside (back, tt),
+      one_line asks answers states names asks′ answers states names′ a t s n records (record_of.Asked (length asks)) (line.Asked worker o) k found,
     )
 
-pub told_kept : (records records′ : List ShortLine) (asks : List ShortOrder) (answers answers′ : List Answered) (names : List ℕ) (r : ShortLine) (l : Line)
-    → AreKept records asks answers names
-    → Begins answers answers′ → IsThere (length asks) (length answers′) r → opened asks answers′ names r ≡ l → records′ ≡ records ++ r ∷ []
-    → AreKept records′ asks answers′ names × (opened_all asks answers′ names records′ ≡ opened_all asks answers names records ++ l ∷ [])
-told_kept records records′ asks answers answers′ names r l k t there is last =
+pub told_kept : (records records′ : List ShortLine) (asks : List ShortOrder) (answers answers′ : List Answered) (states : List StateLine) (names : List ℕ)
+    (r : ShortLine) (l : Line) → AreKept records asks answers states names → Begins answers answers′
+    → IsThere (length asks) (length answers′) (length states) r → opened asks answers′ states names r ≡ l → records′ ≡ records ++ r ∷ []
+    → AreKept records′ asks answers′ states names × (opened_all asks answers′ states names records′ ≡ opened_all asks answers states names records ++ l ∷ [])
+told_kept records records′ asks answers answers′ states names r l k t there is last =
     let a = begins_itself asks in
+    let s = begins_itself states in
     let n = begins_itself names in
-    subst (λ rs. AreKept rs asks answers′ names × (opened_all asks answers′ names rs ≡ opened_all asks answers names records ++ l ∷ [])) (sym last)
-    (kept_still asks answers names asks answers′ names a t n records r k there tt, one_line asks answers names asks answers′ names a t n records r l k is)
+    subst (λ rs. AreKept rs asks answers′ states names
+    × (opened_all asks answers′ states names rs ≡ opened_all asks answers states names records ++ l ∷ [])) (sym last) (
+      kept_still asks answers states names asks answers′ states names a t s n records r k there tt,
+      one_line asks answers states names asks answers′ states names a t s n records r l k is,
+    )
 
-pub line_at : (asks : List ShortOrder) (answers : List Answered) (names : List ℕ) (records : List ShortLine) (i : ℕ) (r : ShortLine)
+pub state_kept : (records records′ : List ShortLine) (asks : List ShortOrder) (answers : List Answered) (states states′ : List StateLine) (names : List ℕ)
+    (state : StateLine) → AreKept records asks answers states names → states′ ≡ states ++ state ∷ []
+    → records′ ≡ records ++ record_of.State (length states) ∷ []
+    → AreKept records′ asks answers states′ names
+    × (opened_all asks answers states′ names records′ ≡ opened_all asks answers states names records ++ line.State state ∷ [])
+state_kept records records′ asks answers states states′ names state k joins last =
+    let a = begins_itself asks in
+    let t = begins_itself answers in
+    let n = begins_itself names in
+    let s : Begins states states′ = record { rest = state ∷ []; is = joins } in
+    let inside : length states < length states′ = subst (λ l. length states < length l) (sym joins) (omega (arith, length-append states (state ∷ []))) in
+    let found : line_or_none line.State (slice_get states′ (length states)) ≡ line.State state =
+    ap (λ l. line_or_none line.State (slice_get l (length states))) joins
+    ∙ ap (line_or_none line.State) (get_right states (state ∷ []) (length states) 0 (omega arith)) in
+    subst (λ rs. AreKept rs asks answers states′ names
+    × (opened_all asks answers states′ names rs ≡ opened_all asks answers states names records ++ line.State state ∷ [])) (sym last) (
+      kept_still asks answers states names asks answers states′ names a t s n records (record_of.State (length states)) k inside tt,
+      one_line asks answers states names asks answers states′ names a t s n records (record_of.State (length states)) (line.State state) k found,
+    )
+
+pub line_at : (asks : List ShortOrder) (answers : List Answered) (states : List StateLine) (names : List ℕ) (records : List ShortLine) (i : ℕ) (r : ShortLine)
     → slice_get records i ≡ Some r
-    → slice_get (opened_all asks answers names records) i ≡ Some (opened asks answers names r)
-line_at asks answers names records i r e = slice_get-map (opened asks answers names) records i ∙ ap (option_map (opened asks answers names)) e
+    → slice_get (opened_all asks answers states names records) i ≡ Some (opened asks answers states names r)
+line_at asks answers states names records i r e =
+    slice_get-map (opened asks answers states names) records i ∙ ap (option_map (opened asks answers states names)) e
 
-pub there_at : (asks : List ShortOrder) (answers : List Answered) (names : List ℕ) (records : List ShortLine) (i : ℕ) (r : ShortLine)
-    → AreKept records asks answers names → slice_get records i ≡ Some r → IsThere (length asks) (length answers) r
-there_at asks answers names records i r k e = all_at (IsThere (length asks) (length answers)) records i r k.there e
+pub there_at : (asks : List ShortOrder) (answers : List Answered) (states : List StateLine) (names : List ℕ) (records : List ShortLine) (i : ℕ) (r : ShortLine)
+    → AreKept records asks answers states names → slice_get records i ≡ Some r → IsThere (length asks) (length answers) (length states) r
+there_at asks answers states names records i r k e = all_at (IsThere (length asks) (length answers) (length states)) records i r k.there e
 
-pub back_at : (asks : List ShortOrder) (answers : List Answered) (names : List ℕ) (records : List ShortLine) (i : ℕ) (a : ShortOrder)
-    → AreKept records asks answers names
+pub back_at : (asks : List ShortOrder) (answers : List Answered) (states : List StateLine) (names : List ℕ) (records : List ShortLine) (i : ℕ) (a : ShortOrder)
+    → AreKept records asks answers states names
     → slice_get asks i ≡ Some a → LeadsBack names a.op
-back_at asks answers names records i a k e = all_at (λ (a : ShortOrder). LeadsBack names a.op) asks i a k.back e
+back_at asks answers states names records i a k e = all_at (λ (a : ShortOrder). LeadsBack names a.op) asks i a k.back e

@@ -53,6 +53,7 @@ pub recalled_same : (unique : ℕ) (before : Recalled) (lines : List Line)
 recalled_same unique before [] = refl
 recalled_same unique before (line.Asked worker order ∷ lines) = recalled_same unique (with_line unique before (line.Asked worker order)) lines
 recalled_same unique before (line.Told told ∷ lines) = recalled_same unique (with_line unique before (line.Told told)) lines
+recalled_same unique before (line.State state ∷ lines) = recalled_same unique before lines
 
 -- lines say it from the first that is kept to the last
 pub record IsSaying (unique : ℕ) (lines : List Line) (so_far : Recalled) (left : List Entry) : Type 0 where
@@ -78,6 +79,7 @@ told_more false told before = omega arith
 one_more : (unique : ℕ) (before : Recalled) (e : Entry) → asks_of (recalled_by unique before e) ≤ asks_of before + 1
 one_more unique before (entry.Asked asked) = ask_more (asked == unique) before
 one_more unique before (entry.Told told) = told_more (told.unique == unique) told before
+one_more unique before entry.State = omega arith
 
 pub saying_on : (unique : ℕ) (lines : List Line) (before after : Recalled) (e : Entry) (left now : List Entry)
     → IsSaying unique lines before left → left ≡ e ∷ now → after ≡ recalled_by unique before e → IsSaying unique lines after now

@@ -1,3 +1,4 @@
 pub mod Inside
+pub mod Place
 pub mod Recent
 pub mod Stock

@@ -18,6 +18,7 @@ with_ask (recall.Told told) = recall.Asked 1
 abbrev pub with_line : ℕ → Recalled → Line → Recalled
 with_line unique before (line.Asked worker order) = if order.unique == unique then with_ask before else before
 with_line unique before (line.Told told) = if told.unique == unique then recall.Told told else before
+with_line unique before (line.State state) = before
 
 -- What lines say of the order of this unique: its last reply, or how many lines ask for it behind the last reply to an
 -- order that had its unique before.

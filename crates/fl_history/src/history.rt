@@ -4,7 +4,7 @@ ghost use Rattle.std.specs.Prelude.{◌≡◌, ◌<◌, ◌^◌, ◌↔◌, ◌+
 ghost use Rattle.std.specs.List.{slice_get};
 
 use crate::lines::Lines;
-use fl_order::{NoMemory, Order, Told};
+use fl_order::{NoMemory, Order, StateLine, Told};
 use std::alloc::Global;
 use std::marker::Model;
 
@@ -20,6 +20,8 @@ pub enum Line {
     },
     /// What an order was answered.
     Told(Told),
+    /// A line of a head, which tells the state that the history goes on from.
+    State(StateLine),
 }
 
 /// Lines in the order of time. Contracts see it as their list.
@@ -63,6 +65,7 @@ impl History {
         match line {
             Line::Asked { worker, order } => self.lines.push_asked(*worker, order),
             Line::Told(told) => self.lines.push_told(told),
+            Line::State(state) => self.lines.push_state(state)?,
         }
         Ok(())
     }

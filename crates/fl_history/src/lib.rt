@@ -12,6 +12,7 @@ mod journal;
 mod lines;
 mod no_journal;
 mod past;
+mod place;
 mod recent;
 mod records;
 
@@ -20,4 +21,5 @@ pub use journal::Journal;
 pub use lines::Lines;
 pub use no_journal::NoJournal;
 pub use past::Past;
+pub use place::Place;
 pub use recent::{Recalled, Recent};

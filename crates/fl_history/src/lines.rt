@@ -1,6 +1,6 @@
 //! Lines, kept in few bytes.
 
-ghost use Rattle.std.specs.Prelude.{◌≡◌, ℕ, ◌+◌, ◌*◌, ◌<◌, ◌≤◌, ◌^◌, List, ◌++◌, ◌∷◌, [], length, Some, IsOk, OnOk};
+ghost use Rattle.std.specs.Prelude.{◌≡◌, ℕ, ◌+◌, ◌*◌, ◌<◌, ◌≤◌, ◌^◌, List, ◌++◌, ◌∷◌, [], length, Some, IsOk, OnOk, OnErr};
 ghost use Rattle.std.specs.List.{slice_get};
 ghost use Rattle.fl_history.specs.Inside.Records.{bytes_at, opened, opened_parts, asked_line};
 ghost use Rattle.fl_history.specs.Inside.Records.{Begins, IsNamed, IsThere, NamesAreThere, LeadsBack};
@@ -8,13 +8,14 @@ ghost use Rattle.fl_history.specs.declared.records.ShortOrder.{ShortOrder};
 ghost use Rattle.fl_history.specs.declared.history.Line.TheVariants as line;
 ghost use Rattle.fl_order.specs.Name.{IsName};
 ghost use Rattle.fl_order.specs.Order.{parts_of};
+ghost use Rattle.fl_order.specs.declared.state_part.StateLine.{StateLine};
 
 use crate::chunks::ChunkedVec;
 use crate::history::Line;
 use crate::records::{
     Answered, NameSpan, ShortLine, ShortOp, ShortOrder, name_in, short_lock, short_op,
 };
-use fl_order::{Answer, Body, LockAsk, Name, Op, OpKind, Order, Told};
+use fl_order::{Answer, Body, LockAsk, Name, Op, OpKind, Order, StateLine, Told};
 use std::alloc::{AllocError, Global};
 use std::marker::Model;
 
@@ -27,7 +28,9 @@ pub struct Lines {
     records: ChunkedVec<ShortLine>,
     asks: ChunkedVec<ShortOrder>,
     answers: ChunkedVec<Answered>,
-    // The bytes of all names, one after another.
+    // Lines of heads.
+    states: ChunkedVec<StateLine>,
+    // The bytes of all names of orders, one after another.
     names: ChunkedVec<u8>,
     room: usize,
 }
@@ -41,9 +44,9 @@ impl Model for Lines {
     ghost use Rattle.fl_history.specs.Inside.Records.{opened_all, AreKept, HaveRoom};
 
     ghost view = { λ l.
-        record { items = opened_all l.asks.items l.answers.items l.names.items l.records.items; room = l.room } };
+        record { items = opened_all l.asks.items l.answers.items l.states.items l.names.items l.records.items; room = l.room } };
 
-    ghost invariant = { λ l. AreKept l.records.items l.asks.items l.answers.items l.names.items
+    ghost invariant = { λ l. AreKept l.records.items l.asks.items l.answers.items l.states.items l.names.items
         × HaveRoom l.room l.records.room l.asks.room l.answers.room l.names.room };
 }
 
@@ -54,6 +57,7 @@ impl Drop for Lines {
             records: _records,
             asks: _asks,
             answers: _answers,
+            states: _states,
             names: _names,
             room: _room,
         } = self;
@@ -69,6 +73,7 @@ impl Lines {
             records: ChunkedVec::new(alloc),
             asks: ChunkedVec::new(alloc),
             answers: ChunkedVec::new(alloc),
+            states: ChunkedVec::new(alloc),
             names: ChunkedVec::new(alloc),
             room: 0,
         }
@@ -104,10 +109,11 @@ impl Lines {
                 unique,
                 result: Err(error),
             }),
+            ShortLine::State(at) => Line::State(self.states.get(at)),
         }
     }
 
-    /// Makes room for so many lines more, whatever they are. A refusal changes nothing, and doesn't come if there is
+    /// Makes room for so many orders and replies more, whatever they are. A refusal changes nothing, and doesn't come if there is
     /// room.
     pub fn reserve(&mut self, count: usize) -> Result<(), AllocError>
         requires { count ≤ 2 ^ 32 }
@@ -148,6 +154,21 @@ impl Lines {
         self.records.push(record);
         self.room -= 1;
     }
+
+    /// A line of a head more. A refusal changes nothing.
+    pub fn push_state(&mut self, state: &StateLine) -> Result<(), AllocError>
+        requires { 0 < self.old.room }
+        ensures items { OnOk result (self.new.items ≡ self.old.items ++ line.State state.now ∷ []) }
+        ensures room { OnOk result (self.new.room + 1 ≡ self.old.room) }
+        ensures refused { OnErr result (self.new ≡ self.old) }
+    {
+        self.states.reserve(1)?;
+        let at = self.states.len();
+        self.states.push(*state);
+        self.records.push(ShortLine::State(at));
+        self.room -= 1;
+        Ok(())
+    }
 }
 
 // The record of a reply, whose answer joins the others if it tells more than that it is done.
@@ -155,9 +176,9 @@ fn keep_told(answers: &mut ChunkedVec<Answered>, told: &Told) -> ShortLine
     requires { 0 < answers.old.room }
     ensures answers { Begins answers.old.items answers.new.items }
     ensures room { answers.old.room ≤ answers.new.room + 1 }
-    ensures there { (asks : ℕ) → IsThere asks (length answers.new.items) result }
-    ensures opened { (asks : List ShortOrder) (names : List ℕ) →
-        opened asks answers.new.items names result ≡ line.Told told.now }
+    ensures there { (asks states : ℕ) → IsThere asks (length answers.new.items) states result }
+    ensures opened { (asks : List ShortOrder) (states : List StateLine) (names : List ℕ) →
+        opened asks answers.new.items states names result ≡ line.Told told.now }
 {
     let unique = told.unique;
     match told.result {

@@ -34,6 +34,8 @@ enum Entry {
     Asked(u64),
     /// A reply.
     Told(Told),
+    /// A line of a head.
+    State,
 }
 
 impl Entry {
@@ -94,6 +96,7 @@ impl Recent {
         match line {
             Line::Asked { worker, order } => self.push_asked(*worker, order),
             Line::Told(told) => self.push_told(told),
+            Line::State(_) => self.keep(Entry::State, line),
         }
     }
 

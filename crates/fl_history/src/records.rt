@@ -13,7 +13,7 @@ const _: () = prove!(size_of::<ShortOrder>() == 80);
 
 const _: () = prove!(size_of::<Answered>() == 48);
 
-/// What is kept of a line. A place is one in the vector of orders or of answers.
+/// What is kept of a line. A place is one in the vector of orders, of answers or of lines of heads.
 #[derive(Clone, Copy, Debug)]
 pub(crate) enum ShortLine {
     /// An order, at this place.
@@ -24,6 +24,8 @@ pub(crate) enum ShortLine {
     Done(u64),
     /// A reply with an error, and its unique.
     Failed(Errno, u64),
+    /// A line of a head, at this place.
+    State(usize),
 }
 
 /// A reply that tells more than that it is done.

@@ -2,11 +2,11 @@
 
 ghost use Rattle.std.specs.Prelude.{◌≡◌, ◌⊎◌, ◌↔◌, ℕ, List, Ok, Err, IsTrue, IfOk, string_bytes};
 ghost use Rattle.fl_history.specs.declared.history.Line.{Line};
-ghost use Rattle.fl_order.specs.Sayable.{FitsBody, FitsTold, IsSayable};
+ghost use Rattle.fl_order.specs.Sayable.{FitsBody, FitsState, FitsTold, IsSayable};
 ghost use Rattle.fl_trace.specs.Text.{text_of, LineFits, Fits, BreaksAt};
 
 use fl_history::{History, Line};
-use fl_order::{Body, NoMemory, Order, Told};
+use fl_order::{Body, NoMemory, Order, StateLine, Told};
 use fl_trace::laws::{a_text_breaks_at_one_line_at_most, no_text_is_that_of_two_histories};
 use fl_trace::{LINE_ROOM, first_line, push_line};
 use std::alloc::Global;
@@ -87,6 +87,7 @@ fn fits(line: &Line) -> bool
     match line {
         Line::Asked { worker, order } => *worker <= 15 && order_fits(*order),
         Line::Told(told) => told_fits(*told),
+        Line::State(state) => state_fits(*state),
     }
 }
 
@@ -94,6 +95,13 @@ fn told_fits(told: Told) -> bool
     ensures { IsTrue result ↔ FitsTold told }
 {
     let _ = told;
+    true
+}
+
+fn state_fits(state: StateLine) -> bool
+    ensures { IsTrue result ↔ FitsState state }
+{
+    let _ = state;
     true
 }
 

@@ -95,6 +95,7 @@ fn hand<J: Journal>(journal: &mut J, line: &Line) -> bool {
     match line {
         Line::Asked { worker, order } => journal.push_asked(*worker, order),
         Line::Told(told) => journal.push_told(told),
+        Line::State(_) => unreachable!(),
     }
     true
 }

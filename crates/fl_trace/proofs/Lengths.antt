@@ -4,23 +4,26 @@ use Rattle.std.proofs.Common.{ap, arith, length-append}
 use Rattle.std.proofs.lemmas.Fmt.{length-decimal-le}
 use Rattle.std.specs.Fmt.{decimal}
 use Rattle.fl_history.specs.declared.history.Line.{Line}
-use Rattle.fl_history.specs.declared.history.Line.TheVariants.{Asked, Told}
+use Rattle.fl_history.specs.declared.history.Line.TheVariants.{Asked, Told, State}
 use Rattle.fl_order.specs.Errno.{number_of}
 use Rattle.fl_order.specs.OpKind.{word_for}
 use Rattle.fl_order.specs.Order.{kind_of, body_of}
-use Rattle.fl_order.specs.Sayable.{FitsBody, FitsLock, FitsResult, FitsAttr}
+use Rattle.fl_order.specs.Sayable.{FitsBody, FitsLock, FitsResult, FitsAttr, FitsState}
 use Rattle.fl_order.specs.declared.body.Body.{Body}
 use Rattle.fl_order.specs.declared.body.Body.TheVariants as body
 use Rattle.fl_order.specs.declared.errno.Errno.{Errno}
 use Rattle.fl_order.specs.declared.kind.OpKind.{OpKind}
 use Rattle.fl_order.specs.declared.order.LockAsk.{LockAsk}
+use Rattle.fl_order.specs.declared.state_part.StateLine.{StateLine}
+use Rattle.fl_order.specs.declared.state_part.StateLine.TheVariants as state
+use Rattle.fl_order.specs.declared.state_part.StatePart.TheVariants as part
 use Rattle.fl_order.specs.declared.told.Answer.{Answer}
 use Rattle.fl_order.specs.declared.told.Answer.TheVariants.{Done, Entry, Attr, Open, Made, Lock}
 use Rattle.fl_order.specs.declared.told.Attr.{Attr as Attributes}
 use Rattle.fl_trace.specs.Text.{line_text, LineFits}
 use Rattle.fl_words.specs.ReadBack.{AreReadBack}
 use Rattle.fl_words.specs.Words.{spaced, flag_text, name_text}
-use Rattle.fl_trace.proofs.LineWords.{lock_ask_words, field_words, attr_words, result_words, line_words, line_spaced}
+use Rattle.fl_trace.proofs.LineWords.{lock_ask_words, field_words, attr_words, result_words, state_words, line_words, line_spaced}
 use Rattle.fl_trace.proofs.LineWords.{small, number_small}
 
 -- a word in front of others
@@ -110,6 +113,59 @@ module _ (w : AreReadBack) where
   fields_short body.Getattr f = omega arith
   fields_short body.Open f = omega arith
 
+  state_short : (line : StateLine) → FitsState line → length (spaced (state_words line)) ≤ 690
+  state_short (state.Head h) f =
+      let w1 : List (List ℕ) = decimal h.fh ∷ [] in
+      let w2 : List (List ℕ) = decimal h.node ∷ w1 in
+      let w3 : List (List ℕ) = decimal h.open_files ∷ w2 in
+      let w4 : List (List ℕ) = decimal h.files ∷ w3 in
+      let w5 : List (List ℕ) = decimal h.parked ∷ w4 in
+      let w6 : List (List ℕ) = decimal h.runs ∷ w5 in
+      let w7 : List (List ℕ) = flag_text h.fair ∷ w6 in
+      let w8 : List (List ℕ) = decimal h.lines ∷ w7 in
+      let e3 : length (spaced w3) ≤ 63 = u32_number h.open_files w2 42 f.open_files (number h.node w1 21 f.node (number h.fh [] 0 f.fh nothing)) in
+      let e6 : length (spaced w6) ≤ 126 =
+      u32_number h.runs w5 105 f.runs (u32_number h.parked w4 84 f.parked (u32_number h.files w3 63 f.files e3)) in
+      let e8 : length (spaced w8) ≤ 149 = number h.lines w7 128 f.lines (word (flag_text h.fair) w6 1 126 (flag_short h.fair) e6) in
+      let e : length (spaced (codes "state" ∷ w8)) ≤ 155 = word (codes "state") w8 5 149 (omega arith) e8 in
+      omega (arith, e)
+  state_short (state.Part (part.Node n lookups linked mode uid gid name)) f =
+      let w1 : List (List ℕ) = name_text name ∷ [] in
+      let w2 : List (List ℕ) = decimal gid ∷ w1 in
+      let w3 : List (List ℕ) = decimal uid ∷ w2 in
+      let w4 : List (List ℕ) = decimal mode ∷ w3 in
+      let w5 : List (List ℕ) = flag_text linked ∷ w4 in
+      let w6 : List (List ℕ) = decimal lookups ∷ w5 in
+      let w7 : List (List ℕ) = decimal n ∷ w6 in
+      let e1 : length (spaced w1) ≤ 511 = word (name_text name) [] 510 0 (w.name_is_short name f.5) nothing in
+      let e4 : length (spaced w4) ≤ 574 = u32_number mode w3 553 f.2 (u32_number uid w2 532 f.3 (u32_number gid w1 511 f.4 e1)) in
+      let e7 : length (spaced w7) ≤ 618 = number n w6 597 f.0 (number lookups w5 576 f.1 (word (flag_text linked) w4 1 574 (flag_short linked) e4)) in
+      let e : length (spaced (codes "node" ∷ w7)) ≤ 623 = word (codes "node") w7 4 618 (omega arith) e7 in
+      omega (arith, e)
+  state_short (state.Part (part.File fh node)) f =
+      let e = word (codes "file") (decimal fh ∷ decimal node ∷ []) 4 42 (omega arith) (number fh (decimal node ∷ []) 21 f.0 (number node [] 0 f.1 nothing)) in
+      omega (arith, e)
+  state_short (state.Part (part.Lock node owner start end write pid flock)) f =
+      let w1 : List (List ℕ) = flag_text flock ∷ [] in
+      let w2 : List (List ℕ) = decimal pid ∷ w1 in
+      let w3 : List (List ℕ) = flag_text write ∷ w2 in
+      let w4 : List (List ℕ) = decimal end ∷ w3 in
+      let w5 : List (List ℕ) = decimal start ∷ w4 in
+      let w6 : List (List ℕ) = decimal owner ∷ w5 in
+      let w7 : List (List ℕ) = decimal node ∷ w6 in
+      let e2 : length (spaced w2) ≤ 23 = u32_number pid w1 2 f.4 (word (flag_text flock) [] 1 0 (flag_short flock) nothing) in
+      let e4 : length (spaced w4) ≤ 46 = number end w3 25 f.3 (word (flag_text write) w2 1 23 (flag_short write) e2) in
+      let e7 : length (spaced w7) ≤ 109 = number node w6 88 f.0 (number owner w5 67 f.1 (number start w4 46 f.2 e4)) in
+      let e : length (spaced (codes "lock" ∷ w7)) ≤ 114 = word (codes "lock") w7 4 109 (omega arith) e7 in
+      omega (arith, e)
+  state_short (state.Part (part.Wait unique node ask)) f =
+      let w1 : List (List ℕ) = decimal node ∷ lock_ask_words ask in
+      let w2 : List (List ℕ) = decimal unique ∷ w1 in
+      let e2 : length (spaced w2) ≤ 189 = number unique w1 168 f.0 (number node (lock_ask_words ask) 147 f.1 (lock_ask_short ask f.2)) in
+      let e : length (spaced (codes "wait" ∷ w2)) ≤ 194 = word (codes "wait") w2 4 189 (omega arith) e2 in
+      omega (arith, e)
+  state_short state.Go f = omega arith
+
   words_short : (line : Line) → LineFits line → length (spaced (line_words line)) < 700
   words_short (Asked worker o) f =
       let few = f.0 in
@@ -131,6 +187,7 @@ module _ (w : AreReadBack) where
       let e = word (codes "tell") (decimal told.unique ∷ result_words told.result) 4 221 (omega arith)
       (number told.unique (result_words told.result) 200 f.unique (result_short told.result f.result)) in
       omega (arith, e)
+  words_short (State line) f = let e = state_short line f in omega (arith, e)
 
   -- a line's text is shorter than this
   pub line_short : (line : Line) → LineFits line → length (line_text line) < 700

@@ -8,12 +8,12 @@ use Rattle.std.specs.Option.{unwrap_or}
 use Rattle.std.specs.Str.{IsUtf8, bytes_eq}
 use Rattle.std.specs.Str.Iter.{LacksByte}
 use Rattle.fl_history.specs.declared.history.Line.{Line}
-use Rattle.fl_history.specs.declared.history.Line.TheVariants.{Asked, Told}
+use Rattle.fl_history.specs.declared.history.Line.TheVariants.{Asked, Told, State}
 use Rattle.fl_order.specs.Errno.{number_of}
 use Rattle.fl_order.specs.Body.{body_shape}
 use Rattle.fl_order.specs.OpKind.{word_for, shape_for, kind_of_word}
 use Rattle.fl_order.specs.Order.{kind_of, body_of, op_of}
-use Rattle.fl_order.specs.Sayable.{FitsBody, FitsOp, FitsLock, FitsResult, FitsAttr}
+use Rattle.fl_order.specs.Sayable.{FitsBody, FitsOp, FitsLock, FitsResult, FitsAttr, FitsState}
 use Rattle.fl_order.specs.declared.body.Body.{Body}
 use Rattle.fl_order.specs.declared.body.Body.TheVariants as body
 use Rattle.fl_order.specs.declared.body.Shape.{Shape}
@@ -28,13 +28,16 @@ use Rattle.fl_order.specs.declared.order.LockAsk.{LockAsk}
 use Rattle.fl_order.specs.declared.order.Op.{Op}
 use Rattle.fl_order.specs.declared.order.Op.TheVariants.{Getlk}
 use Rattle.fl_order.specs.declared.order.Order.{Order}
+use Rattle.fl_order.specs.declared.state_part.StateLine.{StateLine}
+use Rattle.fl_order.specs.declared.state_part.StateLine.TheVariants as state
+use Rattle.fl_order.specs.declared.state_part.StatePart.TheVariants as part
 use Rattle.fl_order.specs.declared.told.Answer.{Answer}
 use Rattle.fl_order.specs.declared.told.Answer.TheVariants.{Done, Entry, Attr, Open, Made, Lock}
 use Rattle.fl_order.specs.declared.told.Attr.{Attr as Attributes}
 use Rattle.fl_trace.specs.Text.{line_text, LineFits}
 use Rattle.fl_words.specs.ReadBack.{AreReadBack, words_of, number_of_word, name_of_word}
 use Rattle.fl_words.specs.Words.{flag_text}
-use Rattle.fl_trace.proofs.LineWords.{lock_ask_words, field_words, attr_words, result_words, line_words}
+use Rattle.fl_trace.proofs.LineWords.{lock_ask_words, field_words, attr_words, result_words, state_words, line_words}
 use Rattle.fl_trace.proofs.LineWords.{line_spaced, small}
 use Rattle.fl_trace.proofs.LineWords.{number_small, line_are}
 
@@ -103,10 +106,35 @@ order_of ws = record {
   op = unwrap_or (op_of_words (kind_of_word (word_at ws 7)) (drop 8 ws)) (Getlk (lock_ask_of ws));
 }
 
+abbrev pub flag_at : List (List ℕ) → ℕ → Bool
+flag_at ws k = bytes_eq (word_at ws k) (codes "1")
+
+abbrev pub state_of : List (List ℕ) → StateLine
+state_of ws =
+    let is : List ℕ → Bool = bytes_eq (word_at ws 0) in
+    if is (codes "state") then state.Head (record {
+      lines = number_at ws 1;
+      fair = flag_at ws 2;
+      runs = number_at ws 3;
+      parked = number_at ws 4;
+      files = number_at ws 5;
+      open_files = number_at ws 6;
+      node = number_at ws 7;
+      fh = number_at ws 8;
+    })
+    else if is (codes "node") then state.Part (part.Node (number_at ws 1) (number_at ws 2) (flag_at ws 3) (number_at ws 4) (number_at ws 5)
+    (number_at ws 6) (name_of_word (word_at ws 7)))
+    else if is (codes "file") then state.Part (part.File (number_at ws 1) (number_at ws 2))
+    else if is (codes "lock") then state.Part (part.Lock (number_at ws 1) (number_at ws 2) (number_at ws 3) (number_at ws 4) (flag_at ws 5)
+    (number_at ws 6) (flag_at ws 7))
+    else if is (codes "wait") then state.Part (part.Wait (number_at ws 1) (number_at ws 2) (lock_ask_of (drop 3 ws)))
+    else state.Go
+
 abbrev pub line_of_words : List (List ℕ) → Line
 line_of_words ws =
     if bytes_eq (word_at ws 0) (codes "ask") then Asked (number_at ws 1) (order_of ws)
-    else Told (record { unique = number_at ws 1; result = result_of (drop 2 ws) })
+    else if bytes_eq (word_at ws 0) (codes "tell") then Told (record { unique = number_at ws 1; result = result_of (drop 2 ws) })
+    else State (state_of ws)
 
 -- the line that a text is of
 abbrev pub line_in : List ℕ → Line
@@ -136,6 +164,21 @@ error_back e = ap (λ found. unwrap_or found ENOENT) (error_is_found e)
 line_some : (line : Line) → 0 < length (line_words line)
 line_some (Asked worker o) = omega arith
 line_some (Told told) = omega arith
+line_some (State (state.Head h)) = omega arith
+line_some (State (state.Part (part.Node number lookups linked mode uid gid name))) = omega arith
+line_some (State (state.Part (part.File fh node))) = omega arith
+line_some (State (state.Part (part.Lock node owner start end write pid flock))) = omega arith
+line_some (State (state.Part (part.Wait unique node ask))) = omega arith
+line_some (State state.Go) = omega arith
+
+-- no line of a head begins as another line does
+state_line : (line : StateLine) → line_of_words (state_words line) ≡ State (state_of (state_words line))
+state_line (state.Head h) = refl
+state_line (state.Part (part.Node number lookups linked mode uid gid name)) = refl
+state_line (state.Part (part.File fh node)) = refl
+state_line (state.Part (part.Lock node owner start end write pid flock)) = refl
+state_line (state.Part (part.Wait unique node ask)) = refl
+state_line state.Go = refl
 
 module _ (w : AreReadBack) where
   value32 : (n : ℕ) → n < 2 ^ 32 → number_of_word (decimal n) ≡ n
@@ -187,6 +230,28 @@ module _ (w : AreReadBack) where
   result_back (Ok (Lock start end kind pid)) f = λ i. Ok (Lock (w.number start f.0 i) (w.number end f.1 i) (value32 kind f.2 i) (value32 pid f.3 i))
   result_back (Err error) f = ap (λ n. Err (error_of n)) (value32 (number_of error) (number_small error)) ∙ ap (λ e. Err e) (error_back error)
 
+  state_back : (line : StateLine) → FitsState line → state_of (state_words line) ≡ line
+  state_back (state.Head h) f = λ i. state.Head (record {
+    lines = w.number h.lines f.lines i;
+    fair = flag_back h.fair i;
+    runs = value32 h.runs f.runs i;
+    parked = value32 h.parked f.parked i;
+    files = value32 h.files f.files i;
+    open_files = value32 h.open_files f.open_files i;
+    node = w.number h.node f.node i;
+    fh = w.number h.fh f.fh i;
+  })
+  state_back (state.Part (part.Node number lookups linked mode uid gid name)) f = λ i.
+      state.Part (part.Node (w.number number f.0 i) (w.number lookups f.1 i) (flag_back linked i) (value32 mode f.2 i) (value32 uid f.3 i)
+      (value32 gid f.4 i) (w.name name f.5 i))
+  state_back (state.Part (part.File fh node)) f = λ i. state.Part (part.File (w.number fh f.0 i) (w.number node f.1 i))
+  state_back (state.Part (part.Lock node owner start end write pid flock)) f = λ i.
+      state.Part (part.Lock (w.number node f.0 i) (w.number owner f.1 i) (w.number start f.2 i) (w.number end f.3 i) (flag_back write i)
+      (value32 pid f.4 i) (flag_back flock i))
+  state_back (state.Part (part.Wait unique node ask)) f = λ i.
+      state.Part (part.Wait (w.number unique f.0 i) (w.number node f.1 i) (lock_ask_back ask f.2 i))
+  state_back state.Go f = refl
+
   line_back : (line : Line) → LineFits line → line_of_words (line_words line) ≡ line
   line_back (Asked worker o) f =
       let few = f.0 in
@@ -200,6 +265,7 @@ module _ (w : AreReadBack) where
         op = unwrap_or (op_back o.op s.op i) (Getlk (lock_ask_of (line_words (Asked worker o))));
       })
   line_back (Told told) f = λ i. Told (record { unique = w.number told.unique f.unique i; result = result_back told.result f.result i })
+  line_back (State line) f = state_line line ∙ ap State (state_back line f)
 
   -- ---- the line of a text
 

@@ -8,24 +8,18 @@ use Rattle.fl_history.specs.declared.history.Line.TheVariants as line
 use Rattle.fl_order.specs.Errno.{number_of}
 use Rattle.fl_order.specs.OpKind.{word_for}
 use Rattle.fl_order.specs.Order.{kind_of, body_of}
-use Rattle.fl_order.specs.Sayable.{IsSayable, FitsTold}
+use Rattle.fl_order.specs.Sayable.{IsSayable, FitsTold, FitsState}
 use Rattle.fl_order.specs.declared.body.Body.{Body}
 use Rattle.fl_order.specs.declared.body.Body.TheVariants as body
 use Rattle.fl_order.specs.declared.errno.Errno.{Errno}
-use Rattle.fl_order.specs.declared.order.LockAsk.{LockAsk}
 use Rattle.fl_order.specs.declared.order.Op.{Op}
 use Rattle.fl_order.specs.declared.order.Order.{Order}
 use Rattle.fl_order.specs.declared.told.Answer.{Answer}
 use Rattle.fl_order.specs.declared.told.Answer.TheVariants.{Done, Entry, Attr, Open, Made, Lock}
 use Rattle.fl_order.specs.declared.told.Attr.{Attr as Attributes}
 use Rattle.fl_order.specs.declared.told.Told.{Told}
+use Rattle.fl_words.specs.State.{lock_ask_text, state_text}
 use Rattle.fl_words.specs.Words.{spaced, flag_text, name_text, behind}
-
--- what a lock request asks for
-abbrev pub lock_ask_text : LockAsk → List ℕ
-lock_ask_text a =
-    spaced (decimal a.fh ∷ decimal a.owner ∷ decimal a.start ∷ decimal a.end ∷
-    decimal a.kind ∷ decimal a.pid ∷ decimal a.flags ∷ [])
 
 -- the fields of a body, if it has any
 abbrev pub fields_text : Body → Option (List ℕ)
@@ -86,6 +80,7 @@ told_text t = spaced (decimal t.unique ∷ result_text t.result ∷ [])
 abbrev pub line_text : Line → List ℕ
 line_text (line.Asked worker order) = spaced (codes "ask" ∷ asked_text worker order ∷ [])
 line_text (line.Told told) = spaced (codes "tell" ∷ told_text told ∷ [])
+line_text (line.State state) = state_text state
 
 -- the whole text: each line with a newline at its end
 abbrev pub text_of : List Line → List ℕ
@@ -95,6 +90,7 @@ text_of lines = flat_map (λ line. line_text line ++ 10 ∷ []) lines
 abbrev pub LineFits : Line → Type 0
 LineFits (line.Asked worker order) = (worker ≤ 15) × IsSayable order
 LineFits (line.Told told) = FitsTold told
+LineFits (line.State state) = FitsState state
 
 -- a history whose text can be read back
 abbrev pub Fits : List Line → Type 0

@@ -3,16 +3,15 @@
 ghost use Rattle.std.specs.Prelude.{◌≡◌, ℕ, Some, IfSome, IsSome};
 ghost use Rattle.std.specs.Option.{option_copied};
 ghost use Rattle.fl_order.specs.Body.{body_shape};
-ghost use Rattle.fl_order.specs.Sayable.{FitsBody, FitsLock, FitsOp, IsSayable};
+ghost use Rattle.fl_order.specs.Sayable.{FitsBody, FitsOp, IsSayable};
 ghost use Rattle.fl_order.specs.declared.body.Body.{Body};
 ghost use Rattle.fl_order.specs.declared.body.Shape.TheVariants.{Create, Flush, Release};
 ghost use Rattle.fl_order.specs.declared.order.Order.{Order};
 ghost use Rattle.fl_order.specs.declared.order.Op.{Op};
-ghost use Rattle.fl_order.specs.declared.order.LockAsk.{LockAsk};
-ghost use Rattle.fl_trace.specs.Text.{order_text, op_text, fields_text, lock_ask_text};
+ghost use Rattle.fl_trace.specs.Text.{order_text, op_text, fields_text};
 
-use fl_order::{Body, LockAsk, Op, OpKind, Order, Shape};
-use fl_words::{first_word, flag_word, name, number, u32_number, u32_word, u64_word};
+use fl_order::{Body, Op, OpKind, Order, Shape};
+use fl_words::{first_word, flag_word, name, number, read_lock_ask, u32_word, u64_word};
 
 /// An order; none if it has any other spelling.
 pub(super) fn asked_order(text: &str) -> Option<Order>
@@ -109,27 +108,4 @@ fn read_release(text: &str) -> Option<Body>
     let (drop, rest) = flag_word(rest)?;
     let owner = number(rest)?;
     Some(Body::Release { fh, drop, owner })
-}
-
-fn read_lock_ask(text: &str) -> Option<LockAsk>
-    ensures fits { IfSome result FitsLock }
-    ensures spelled { IfSome result (λ ask. text.now ≡ lock_ask_text ask) }
-    ensures only { (ask : LockAsk) → FitsLock ask → text.now ≡ lock_ask_text ask → IsSome result }
-{
-    let (fh, rest) = u64_word(text)?;
-    let (owner, rest) = u64_word(rest)?;
-    let (start, rest) = u64_word(rest)?;
-    let (end, rest) = u64_word(rest)?;
-    let (kind, rest) = u32_word(rest)?;
-    let (pid, rest) = u32_word(rest)?;
-    let flags = u32_number(rest)?;
-    Some(LockAsk {
-        fh,
-        owner,
-        start,
-        end,
-        kind,
-        pid,
-        flags,
-    })
 }

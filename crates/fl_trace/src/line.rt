@@ -4,13 +4,14 @@ ghost use Rattle.std.specs.Prelude.{◌≡◌, ◌+◌, ◌≤◌, ◌++◌, ◌
 ghost use Rattle.std.specs.Str.{IsUtf8};
 ghost use Rattle.fl_history.specs.declared.history.Line.TheVariants as line;
 ghost use Rattle.fl_order.specs.OpKind.{word_for};
-ghost use Rattle.fl_trace.specs.Text.{lock_ask_text, fields_text, op_text, attr_text, answer_text, result_text};
-ghost use Rattle.fl_trace.specs.Text.{line_text};
+ghost use Rattle.fl_trace.specs.Text.{fields_text, op_text, attr_text, answer_text, result_text, line_text};
 ghost use Rattle.fl_words.specs.Words.{behind};
 
 use fl_history::Line;
-use fl_order::{Answer, Attr, Body, Errno, LockAsk, Op, OpKind, Order, Told};
-use fl_words::{push, push_flag, push_name, push_number, push_numbers};
+use fl_order::{
+    Answer, Attr, Body, Errno, Head, LockAsk, Op, OpKind, Order, StateLine, StatePart, Told,
+};
+use fl_words::{push, push_flag, push_lock_ask, push_name, push_number, push_numbers, push_state};
 
 /// So many bytes of room are enough for the text of any line and its newline.
 pub const LINE_ROOM: usize = 700;
@@ -26,6 +27,7 @@ pub fn push_line(text: &mut Vec<u8>, line: &Line)
     match line {
         Line::Asked { worker, order } => push_asked(text, *worker, order),
         Line::Told(told) => push_told(text, told),
+        Line::State(line) => push_state(text, line),
     }
     push(text, "\n");
 }
@@ -124,27 +126,6 @@ fn push_fields(text: &mut Vec<u8>, body: &Body)
         }
         Body::Getattr | Body::Open => (),
     }
-}
-
-// A space, and what a lock request asks for.
-fn push_lock_ask(text: &mut Vec<u8>, ask: &LockAsk)
-    requires room { length text.old.items + 147 ≤ vec_capacity text.old }
-    ensures bytes { text.new.items ≡ text.old.items ++ 32 ∷ lock_ask_text ask.now }
-    ensures few { length text.new.items ≤ length text.old.items + 147 }
-    ensures capacity { vec_capacity text.old ≤ vec_capacity text.new }
-    ensures utf8 { IsUtf8 text.old.items → IsUtf8 text.new.items }
-{
-    let LockAsk {
-        fh,
-        owner,
-        start,
-        end,
-        kind,
-        pid,
-        flags,
-    } = *ask;
-    let (kind, pid, flags) = (u64::from(kind), u64::from(pid), u64::from(flags));
-    push_numbers(text, &[fh, owner, start, end, kind, pid, flags]);
 }
 
 // A space, and an answer or the number of an error.

@@ -12,7 +12,7 @@ use crate::ask::asked_order;
 use crate::tell::read_told;
 use fl_history::Line;
 use fl_words::laws::words_are_read_back;
-use fl_words::{split_word, u32_word};
+use fl_words::{first_word, read_state, u32_word};
 
 /// The first line of a text, and the text after its newline; none if no line that can be read back begins
 /// the text.
@@ -50,12 +50,11 @@ fn read_line(text: &str) -> Option<Line>
     ensures spelled { IfSome result (λ line. text.now ≡ line_text line) }
     ensures only { (line : Line) → LineFits line → text.now ≡ line_text line → IsSome result }
 {
-    words_are_read_back();
-    let (word, rest) = split_word(text)?;
+    let (word, rest) = first_word(text);
     match word {
-        "ask" => read_asked(rest),
-        "tell" => Some(Line::Told(read_told(rest)?)),
-        _ => None,
+        "ask" => read_asked(rest?),
+        "tell" => Some(Line::Told(read_told(rest?)?)),
+        _ => Some(Line::State(read_state(text)?)),
     }
 }
 

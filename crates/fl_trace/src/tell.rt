@@ -11,7 +11,6 @@ ghost use Rattle.fl_order.specs.declared.told.Told.{Told};
 ghost use Rattle.fl_trace.specs.Text.{attr_text, made_text, lock_text, answer_text, result_text, told_text};
 
 use fl_order::{Answer, Attr, Errno, Told};
-use fl_words::laws::words_are_read_back;
 use fl_words::{number, split_word, u32_number, u32_word, u64_word};
 
 // Each error once.
@@ -51,7 +50,6 @@ fn read_result(text: &str) -> Option<Result<Answer, Errno>>
     ensures spelled { IfSome result (λ told. text.now ≡ result_text told) }
     ensures only { (told : Result Answer Errno) → FitsResult told → text.now ≡ result_text told → IsSome result }
 {
-    words_are_read_back();
     if text == "ok" {
         return Some(Ok(Answer::Done));
     }

@@ -3,3 +3,4 @@ pub mod Letters
 pub mod Numbers
 pub mod Digits
 pub mod Spaces
+pub mod FirstWords

@@ -38,7 +38,6 @@ read_back = record {
   words = split_spaced;
   text_is_utf8 = λ words are. letters_utf8 32 (spaced words) (spaced_letters words are);
   text_lacks_newline = λ words are. lacks_low 32 10 (spaced words) (spaced_letters words are) (lit< tt);
-  word_lacks_space = λ word is. lacks_low 33 32 word (tested word is) (lit< tt);
   number_is_visible = λ n small. visible (decimal n) (decimal_word n small);
   number = λ n small. digits_value-decimal own n small;
   name_is_visible = λ name is. visible (name_text name) (name_word name is.are_bytes);

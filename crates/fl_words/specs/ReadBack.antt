@@ -22,14 +22,13 @@ number_of_word word = digits_value 10 word
 abbrev pub name_of_word : List ℕ → List ℕ
 name_of_word word = result_unwrap_or (decode_of word) []
 
--- Words of visible characters are what stands between the spaces of their text. A number that fits 64 bits and a name
--- have such words, which lead back to them.
+-- Words of visible characters are what stands between the spaces of their text, which is UTF-8 and has no newline. A
+-- number that fits 64 bits and a name have such words, which lead back to them.
 pub record AreReadBack : Type 0 where
   pub words : (words : List (List ℕ)) → 0 < length words → AllByRecursion IsVisible words
       → words_of (spaced words) ≡ words
   pub text_is_utf8 : (words : List (List ℕ)) → AllByRecursion IsVisible words → IsUtf8 (spaced words)
   pub text_lacks_newline : (words : List (List ℕ)) → AllByRecursion IsVisible words → LacksByte 10 (spaced words)
-  pub word_lacks_space : (word : List ℕ) → IsVisible word → LacksByte 32 word
   pub number_is_visible : (n : ℕ) → n < 2 ^ 64 → IsVisible (decimal n)
   pub number : (n : ℕ) → n < 2 ^ 64 → number_of_word (decimal n) ≡ n
   pub name_is_visible : (name : List ℕ) → IsName name → IsVisible (name_text name)

@@ -78,6 +78,18 @@ pub fn u32_number(word: &str) -> Option<u32>
     u32::try_from(number(word)?).ok()
 }
 
+/// A 0 or a 1.
+pub fn flag(word: &str) -> Option<bool>
+    ensures spelled { IfSome result (λ flag. word.now ≡ flag_text flag) }
+    ensures only { (flag : Bool) → word.now ≡ flag_text flag → result ≡ Some flag }
+{
+    match word {
+        "0" => Some(false),
+        "1" => Some(true),
+        _ => None,
+    }
+}
+
 /// A 0 or a 1, and the text after the space behind it.
 pub fn flag_word(text: &str) -> Option<(bool, &str)>
     ensures spelled { IfSome result (λ read. text.now ≡ flag_text read.0 ++ 32 ∷ read.1.now) }
@@ -85,11 +97,7 @@ pub fn flag_word(text: &str) -> Option<(bool, &str)>
         IsSomeAnd result (λ read. (read.0 ≡ flag) × (read.1.now ≡ rest)) }
 {
     let (word, rest) = split_word(text)?;
-    match word {
-        "0" => Some((false, rest)),
-        "1" => Some((true, rest)),
-        _ => None,
-    }
+    Some((flag(word)?, rest))
 }
 
 /// A name's word: lower case hex, or a dash for the empty name.

@@ -12,11 +12,13 @@ use Rattle.fl_history.specs.declared.recent.Recalled.TheVariants as recall
 abbrev pub entry_of : Line → Entry
 entry_of (line.Asked worker order) = entry.Asked order.unique
 entry_of (line.Told told) = entry.Told told
+entry_of (line.State state) = entry.State
 
 -- what lines say of the order of this unique, with one of which this is kept
 abbrev pub recalled_by : ℕ → Recalled → Entry → Recalled
 recalled_by unique before (entry.Asked asked) = if asked == unique then with_ask before else before
 recalled_by unique before (entry.Told told) = if told.unique == unique then recall.Told told else before
+recalled_by unique before entry.State = before
 
 -- how many asks these are
 abbrev pub asks_of : Recalled → ℕ

@@ -19,6 +19,7 @@ use Rattle.fl_order.specs.declared.kind.OpKind.{OpKind}
 use Rattle.fl_order.specs.declared.order.Op.{Op}
 use Rattle.fl_order.specs.declared.order.LockAsk.{LockAsk}
 use Rattle.fl_order.specs.declared.order.Order.{Order}
+use Rattle.fl_order.specs.declared.state_part.StateLine.{StateLine}
 use Rattle.fl_order.specs.declared.told.Answer.TheVariants.{Done}
 
 -- the bytes of the name in a body, none if it names nothing
@@ -106,15 +107,17 @@ abbrev pub answered_line : Answered → Line
 answered_line a = line.Told (record { unique = a.unique; result = Ok a.answer })
 
 -- the line of a record
-abbrev pub opened : List ShortOrder → List Answered → List ℕ → ShortLine → Line
-opened asks answers names (record_of.Asked at) = line_or_none (asked_line names) (slice_get asks at)
-opened asks answers names (record_of.Answered at) = line_or_none answered_line (slice_get answers at)
-opened asks answers names (record_of.Done unique) = line.Told (record { unique = unique; result = Ok Done })
-opened asks answers names (record_of.Failed error unique) = line.Told (record { unique = unique; result = Err error })
+abbrev pub opened : List ShortOrder → List Answered → List StateLine → List ℕ → ShortLine → Line
+opened asks answers states names (record_of.Asked at) = line_or_none (asked_line names) (slice_get asks at)
+opened asks answers states names (record_of.Answered at) = line_or_none answered_line (slice_get answers at)
+opened asks answers states names (record_of.Done unique) = line.Told (record { unique = unique; result = Ok Done })
+opened asks answers states names (record_of.Failed error unique) =
+    line.Told (record { unique = unique; result = Err error })
+opened asks answers states names (record_of.State at) = line_or_none line.State (slice_get states at)
 
 -- the lines of records
-abbrev pub opened_all : List ShortOrder → List Answered → List ℕ → List ShortLine → List Line
-opened_all asks answers names records = map (opened asks answers names) records
+abbrev pub opened_all : List ShortOrder → List Answered → List StateLine → List ℕ → List ShortLine → List Line
+opened_all asks answers states names records = map (opened asks answers states names) records
 
 -- the second list begins with the first
 pub record Begins {A : Type 0} (xs ys : List A) : Type 0 where
@@ -139,18 +142,19 @@ pub record LeadsBack (names : List ℕ) (op : ShortOp) : Type 0 where
   pub is : opened_op names op ≡ Some asked
 
 -- a record leads to what is there
-abbrev pub IsThere : ℕ → ℕ → ShortLine → Type 0
-IsThere asks answers (record_of.Asked at) = at < asks
-IsThere asks answers (record_of.Answered at) = at < answers
-IsThere asks answers _ = Unit {0}
+abbrev pub IsThere : ℕ → ℕ → ℕ → ShortLine → Type 0
+IsThere asks answers states (record_of.Asked at) = at < asks
+IsThere asks answers states (record_of.Answered at) = at < answers
+IsThere asks answers states (record_of.State at) = at < states
+IsThere asks answers states _ = Unit {0}
 
 -- All that is kept leads to what is there.
-pub record AreKept (records : List ShortLine) (asks : List ShortOrder) (answers : List Answered) (names : List ℕ)
-    : Type 0 where
-  pub there : AllByRecursion (IsThere (length asks) (length answers)) records
+pub record AreKept (records : List ShortLine) (asks : List ShortOrder) (answers : List Answered)
+    (states : List StateLine) (names : List ℕ) : Type 0 where
+  pub there : AllByRecursion (IsThere (length asks) (length answers) (length states)) records
   pub back : AllByRecursion (λ (a : ShortOrder). LeadsBack names a.op) asks
 
--- For so many more lines memory is there, whatever they are.
+-- For so many more orders and replies memory is there, whatever they are.
 pub record HaveRoom (room records asks answers names : ℕ) : Type 0 where
   pub for_records : room ≤ records
   pub for_asks : room ≤ asks

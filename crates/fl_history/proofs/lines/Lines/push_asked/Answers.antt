@@ -9,7 +9,7 @@ invariant_of-self c =
     let s = c.self.inside in
     let k = c.keep_op-op in
     let room = c.self.invariant.1 in (
-      (asked_kept s.records.items c.push-2.new.self.items s.asks.items c.push.new.self.items s.answers.items s.names.items k.new.names.items
+      (asked_kept s.records.items c.push-2.new.self.items s.asks.items c.push.new.self.items s.answers.items s.states.items s.names.items k.new.names.items
           c.args.worker c.args.order.now k.result c.new.result c.self.invariant.0 k.ensures.names k.ensures.there k.ensures.opened c.new.ensures
           c.push.ensures.items (c.push-2.ensures.items ∙ ap (λ at. s.records.items ++ record_of.Asked at ∷ []) c.len-at.ensures.len)).0,
       record {
@@ -24,7 +24,7 @@ pub returns-clause-items : goal.returns-clause-items
 returns-clause-items c =
     let s = c.self.inside in
     let k = c.keep_op-op in
-    (asked_kept s.records.items c.push-2.new.self.items s.asks.items c.push.new.self.items s.answers.items s.names.items k.new.names.items
+    (asked_kept s.records.items c.push-2.new.self.items s.asks.items c.push.new.self.items s.answers.items s.states.items s.names.items k.new.names.items
     c.args.worker c.args.order.now k.result c.new.result c.self.invariant.0 k.ensures.names k.ensures.there k.ensures.opened c.new.ensures
     c.push.ensures.items (c.push-2.ensures.items ∙ ap (λ at. s.records.items ++ record_of.Asked at ∷ []) c.len-at.ensures.len)).1
     ∙ ap (λ v. v.items ++ Asked c.args.worker c.args.order.now ∷ []) c.self.view_is
