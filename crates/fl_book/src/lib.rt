@@ -1,5 +1,6 @@
-//! The public face for library users: what takes orders, the history that it records, and what is said of a history.
-//! Nothing of the program uses this crate.
+//! The public face for library users: what takes orders, the history that it records, and what is said of a whole
+//! history, by `check` and `quiet`, which stand here. Nothing of the program uses this crate. Contracts let through a
+//! `check` and a `quiet` that are always refused; tests refuse these.
 //!
 //! One imports from it:
 //! - what takes orders: `Desk`, for one caller at a time; `Board` with its `Seat`s, for several threads; `Rules`, by
@@ -18,15 +19,16 @@
 //! `into_history` gives `check` says `Verdict::Legal`.
 #![tactic(auto)]
 
+mod checking;
+
+pub use checking::{check, quiet};
 pub use fl_board::{
     Board, BoardName, CloseFault, FreshLog, HandFault, LogName, NoView, OpenFault, Seat,
 };
 pub use fl_core::Rules;
-pub use fl_desk::{
-    Desk, MOST_IN_BATCH, NothingOutgoing, Outgoing, ToldLists, Verdict, check, laws,
-};
+pub use fl_desk::{Desk, MOST_IN_BATCH, NothingOutgoing, Outgoing, ToldLists, laws};
 pub use fl_history::{History, Journal, Line, Lines, NoJournal};
-pub use fl_judge::quiet;
+pub use fl_judge::Verdict;
 pub use fl_log::Ask;
 pub use fl_stream::{
     Streamed, TraceFault, TraceRoom, Unwritten, WhenWriterFails, has_text, print_trace, read_trace,

@@ -11,13 +11,18 @@ use Rattle.fl_desk.specs.Legal.{IsLegal, nothing, step}
 use Rattle.fl_desk.specs.Kept.{IsKept}
 use Rattle.fl_core.specs.State.{View, State, Snapshot, opening, snapshot_of}
 use Rattle.fl_core.specs.Effects.{Effect, at_once, later, followed_by, told_first, replied, recorded}
+use Rattle.fl_core.specs.Restored.{Part, a_node, a_file, a_lock, a_request, told_part}
 use Rattle.fl_core.specs.Step.{next, replies}
+use Rattle.fl_desk.specs.Heads.{with_state}
 use Rattle.fl_waiting.specs.Waiting.{AllWait, AreApart}
 use Rattle.fl_desk.specs.Leading.{LeadsTo}
 use Rattle.fl_history.specs.declared.history.Line.{Line}
 use Rattle.fl_history.specs.declared.history.Line.TheVariants as line
 use Rattle.fl_order.specs.declared.told.Told.{Told}
 use Rattle.fl_order.specs.declared.order.Order.{Order}
+use Rattle.fl_order.specs.declared.state_part.StateLine.{StateLine}
+use Rattle.fl_order.specs.declared.state_part.StateLine.TheVariants as state
+use Rattle.fl_state.specs.Parts.{part_of}
 use Rattle.fl_marks.specs.Conflict.{IsLawful}
 use Rattle.fl_waiting.specs.declared.rules.Rules.{Rules}
 
@@ -88,12 +93,25 @@ reply_keeps : (waiting : Option Order) (told : Told) (s : State) → (read_reply
 reply_keeps None told s = refl
 reply_keeps (Some order) told s = refl
 
+part_keeps : (part : Part) (s : State) → (told_part part s).rules ≡ s.rules
+part_keeps (a_node number node) s = refl
+part_keeps (a_file fh node) s = refl
+part_keeps (a_lock r) s = refl
+part_keeps (a_request r) s = refl
+
+state_keeps : (l : StateLine) (s : State) → (with_state l s).rules ≡ s.rules
+state_keeps (state.Head head) s = refl
+state_keeps (state.Part part) s = part_keeps (part_of part) s
+state_keeps state.Go s = refl
+
 reading_keeps : (r : Reading) (lines : List Line) → (state_at_end (fold read_line r lines)).rules ≡ (r.state).rules
 reading_keeps r [] = committed_keeps r.waiting r.state
 reading_keeps r (line.Asked worker order ∷ lines) =
     reading_keeps (read_line r (line.Asked worker order)) lines ∙ committed_keeps r.waiting r.state
 reading_keeps r (line.Told told ∷ lines) =
     reading_keeps (read_line r (line.Told told)) lines ∙ reply_keeps r.waiting told r.state
+reading_keeps r (line.State l ∷ lines) =
+    reading_keeps (read_line r (line.State l)) lines ∙ state_keeps l (committed r.waiting r.state) ∙ committed_keeps r.waiting r.state
 
 -- no line changes them
 pub rules_stay : (rules : Rules) (lines : List Line) → (state_after rules lines).rules ≡ rules
@@ -129,15 +147,33 @@ taken_kept lines given new present after worker order tolds shown kept given_is 
       lawful = lawful kept.lawful;
     }
 
--- one order more leads on, if what its replies give is what is there after it
-pub leads_on : (lines : List Line) (p : Snapshot) (worker : ℕ) (order : Order) → LeadsTo lines p
-    → ((s : State) → snapshot_of s ≡ p → snapshot_of (recorded (replied order (replies p order)) s) ≡ next p order)
-    → AllWait p.rules (next p order).marking (next p order).view.parked → AreApart (next p order).view.parked
-    → IsLawful (next p order).marking → LeadsTo (lines ++ step_lines worker order (replies p order)) (next p order)
-leads_on lines p worker order leads read waiting apart lawful = record {
-  legal = step lines worker order leads.legal (ap (λ (q : Snapshot). lines ++ step_lines worker order (replies q order)) leads.stands);
-  stands = sym (read (state_after p.rules lines) (sym leads.stands)) ∙ ap snapshot_of (sym (read_step p.rules lines worker order (replies p order)));
-  waiting = waiting;
-  apart = apart;
-  lawful = lawful;
-}
+-- ---- what lines lead to
+
+-- what a step's replies give
+pub record Steps : Type 0 where
+  pub read : (p : Snapshot) (order : Order) (s : State) → AllWait p.rules p.marking p.view.parked → AreApart p.view.parked → snapshot_of s ≡ p
+      → snapshot_of (recorded (replied order (replies p order)) s) ≡ next p order
+  pub waiting : (p : Snapshot) (order : Order) → AllWait p.rules (next p order).marking (next p order).view.parked
+  pub apart : (p : Snapshot) (order : Order) → AllWait p.rules p.marking p.view.parked → AreApart p.view.parked → AreApart (next p order).view.parked
+  pub opens : (rules : Rules) → IsLawful (snapshot_of (opening rules)).marking
+  pub lawful : (p : Snapshot) (order : Order) → AllWait p.rules p.marking p.view.parked → AreApart p.view.parked → IsLawful p.marking
+      → IsLawful (next p order).marking
+
+module _ (steps : Steps) where
+  -- no lines lead to the opening
+  pub nothing_leads : (rules : Rules) → LeadsTo [] (snapshot_of (opening rules))
+  nothing_leads rules = record { legal = nothing; stands = refl; waiting = tt; apart = tt; lawful = steps.opens rules }
+
+  -- one order more leads on
+  pub leads_on : (lines : List Line) (p : Snapshot) (worker : ℕ) (order : Order) → LeadsTo lines p
+      → LeadsTo (lines ++ step_lines worker order (replies p order)) (next p order)
+  leads_on lines p worker order leads =
+      let tolds = replies p order in
+      let read = steps.read p order (state_after p.rules lines) leads.waiting leads.apart (sym leads.stands) in
+      record {
+        legal = step lines worker order leads.legal (ap (λ (q : Snapshot). lines ++ step_lines worker order (replies q order)) leads.stands);
+        stands = sym read ∙ ap snapshot_of (sym (read_step p.rules lines worker order tolds));
+        waiting = steps.waiting p order;
+        apart = steps.apart p order leads.waiting leads.apart;
+        lawful = steps.lawful p order leads.waiting leads.apart leads.lawful;
+      }

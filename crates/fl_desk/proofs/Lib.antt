@@ -1,4 +1,8 @@
+pub mod Counts
+pub mod Cuts
+pub mod Givens
+pub mod Heads
 pub mod Histories
-pub mod Verdicts
 pub mod Orders
 pub mod Prefixes
+pub mod Telling

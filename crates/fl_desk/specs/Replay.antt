@@ -2,6 +2,7 @@
 use Rattle.std.specs.Prelude.{◌≢◌, ℕ, Option, Some, None, List}
 use Rattle.std.specs.List.{fold, AllByRecursion}
 use Rattle.fl_core.specs.State.{State, opening}
+use Rattle.fl_desk.specs.Heads.{with_state}
 use Rattle.fl_core.specs.Effects.{at_once, later, told_first, recorded}
 use Rattle.fl_history.specs.declared.history.Line.{Line}
 use Rattle.fl_history.specs.declared.history.Line.TheVariants as line
@@ -32,6 +33,7 @@ read_reply (Some order) told s = recorded (told_first order told) s
 abbrev pub read_line : Reading → Line → Reading
 read_line r (line.Asked worker order) = record { state = committed r.waiting r.state; waiting = Some order }
 read_line r (line.Told told) = record { state = read_reply r.waiting told r.state; waiting = None }
+read_line r (line.State state) = record { state = with_state state (committed r.waiting r.state); waiting = None }
 
 -- the state at the end of lines
 abbrev pub state_at_end : Reading → State

@@ -1,31 +1,29 @@
 -- Where lines break the rules, what is heard there, and what these want.
-use Rattle.std.proofs.Common.{◌≡◌, ℕ, suc, ◌+◌, ◌-◌, ◌<◌, ◌≤◌, true, false, Option, Some, None, cond}
-use Rattle.std.proofs.Common.{List, [], ◌∷◌, ◌++◌, length, take, drop, slice_get}
+use Rattle.std.proofs.Common.{◌≡◌, inl, inr, ℕ, ◌+◌, ◌-◌, ◌<◌, true, false, Option, Some, None, cond}
+use Rattle.std.proofs.Common.{List, [], ◌∷◌, ◌++◌, length, take, slice_get}
 use Rattle.std.proofs.Common.{ap, sym, ◌∙◌, subst, arith}
-use Rattle.std.proofs.lemmas.List.{length-append, take-append-le, take_all, get_or_append_left}
+use Rattle.std.proofs.lemmas.List.{append-nil, length-append, take-append-le, take_all, get_or_append_left}
 use Rattle.std.proofs.lemmas.List.Sums.{sum_by-append}
 use Rattle.std.proofs.lemmas.Option.{slice_get-get_or, slice_get_past}
 use Rattle.std.proofs.Math.Seq.{get_or-append_seam, take-append_seam}
 use Rattle.std.specs.Option.{is_some}
-use Rattle.fl_desk.specs.Legal.{is_asked, orders_asked}
+use Rattle.fl_desk.specs.Legal.{IsLegal, is_asked, orders_asked}
 use Rattle.fl_history.specs.declared.history.Line.{Line}
 use Rattle.fl_judge.specs.declared.replay.Replay.{Replay}
 use Rattle.fl_judge.specs.Details.{IsDueBehind, IsDifferenceAt}
 use Rattle.fl_judge.specs.Hearing.{Hearing}
 use Rattle.fl_judge.specs.Inside.Heard.{LeadsUpTo, DiffersIn, Stands, IsStoppedAt, IsHeard, IsNoted}
-use Rattle.fl_judge.specs.Present.{told_lines}
-use Rattle.fl_judge.proofs.Replays.{left_from, all_told}
-use Rattle.fl_judge.proofs.Verdicts.{seen, said, missing, up_to}
+use Rattle.fl_judge.proofs.Heads.{GoesByParts, inside, not_whole}
+use Rattle.fl_judge.proofs.Replays.{due_first, legal_or_inside}
+use Rattle.fl_judge.proofs.Verdicts.{WantsMore, seen, said, missing, lacks_reply, up_to}
 use Rattle.fl_order.specs.declared.told.Told.{Told}
 
 -- ---- the reply that has to come
 
 -- behind lines that a replay led up to
 due_behind : (lines : List Line) (r : Replay) (o : Option Told) → o ≡ slice_get r.tolds.told r.told → LeadsUpTo lines r → IsDueBehind r.core.rules lines o
-due_behind lines r None is up = (all_told r lines (sym is) up).legal
-due_behind lines r (Some due) is up = λ rest legal.
-    let w = up.due rest legal in
-    (told_lines (drop (suc r.told) r.tolds.told) ++ w.0, w.1 ∙ ap (λ t. told_lines t ++ w.0) (left_from r.tolds.told r.told due (sym is)))
+due_behind lines r None is up = legal_or_inside r lines (sym is) up
+due_behind lines r (Some due) is up = due_first lines r due (sym is) up
 
 -- where the lines differ
 pub difference_at : (lines : List Line) (now : Hearing) (r : Replay) (o : Option ℕ) (found : Option Line) (due : Option Told) (n : ℕ) → seen r lines ≡ now
@@ -43,16 +41,27 @@ difference_at lines now r (Some m) found due n same at is stands stopped =
     number : (m n : ℕ) → ◌≡◌ {A = Option ℕ} (Some m) (Some n) → m ≡ n
     number m n e = cc e
 
--- behind the lines, if replies are missing there
-pub difference_behind : (lines : List Line) (now : Hearing) (r : Replay) (o : Option Told) (n : ℕ) → seen r lines ≡ now → n ≡ length lines + 1
-    → o ≡ slice_get r.tolds.told r.told → is_some o ≡ true → LeadsUpTo lines r → IsDifferenceAt now.rules now.lines (record { number = n; found = None; due = o })
-difference_behind lines now r None n same at is some up = absurd (cc some)
-difference_behind lines now r (Some due) n same at is some up =
-    subst (λ (h : Hearing). IsDifferenceAt h.rules h.lines (record { number = n; found = None; due = Some due })) same (record {
-      differs = missing lines r due n at (sym is) up;
+-- behind the lines, if something is missing there
+behind_all : (lines : List Line) (now : Hearing) (r : Replay) (o : Option Told) (n : ℕ) → seen r lines ≡ now → n ≡ length lines + 1
+    → o ≡ slice_get r.tolds.told r.told → (IsLegal r.core.rules lines → ⊥) → LeadsUpTo lines r
+    → IsDifferenceAt now.rules now.lines (record { number = n; found = None; due = o })
+behind_all lines now r o n same at is illegal up =
+    subst (λ (h : Hearing). IsDifferenceAt h.rules h.lines (record { number = n; found = None; due = o })) same (record {
+      differs = missing lines r n at illegal up;
       found = sym (slice_get_past lines (n - 1) (omega (arith, at)));
-      due = subst (λ ls. IsDueBehind r.core.rules ls (Some due)) (sym (take_all (n - 1) lines (omega (arith, at)))) (due_behind lines r (Some due) is up);
+      due = subst (λ ls. IsDueBehind r.core.rules ls o) (sym (take_all (n - 1) lines (omega (arith, at)))) (due_behind lines r o is up);
     })
+
+-- replies, or the end of a head
+pub difference_behind : GoesByParts → (lines : List Line) (now : Hearing) (r : Replay) (o : Option Told) (n : ℕ) → seen r lines ≡ now → n ≡ length lines + 1
+    → o ≡ slice_get r.tolds.told r.told → WantsMore r → LeadsUpTo lines r
+    → IsDifferenceAt now.rules now.lines (record { number = n; found = None; due = o })
+difference_behind goes_on lines now r (Some due) n same at is some up =
+    behind_all lines now r (Some due) n same at is (lacks_reply lines r due (sym is) up) up
+difference_behind goes_on lines now r None n same at is (inl some) up = absurd (cc (ap is_some is, some))
+difference_behind goes_on lines now r None n same at is (inr telling) up =
+    behind_all lines now r None n same at is
+    (λ legal. not_whole goes_on r.core.rules lines [] (subst (IsLegal r.core.rules) (sym (append-nil lines)) legal) (inside lines r telling up)) up
 
 -- ---- one line more
 

@@ -1,12 +1,11 @@
 -- Whether lines are quiet, line by line.
-use Rattle.std.proofs.Common.{◌≡◌, ◌↔◌, ℕ, Bool, true, false, not, ◌&&◌, ◌⊎◌, inl, inr, ⊎_elim, List, [], ◌∷◌, ◌++◌}
+use Rattle.std.proofs.Common.{◌≡◌, ◌≢◌, ◌↔◌, ℕ, Bool, true, false, not, ◌&&◌, ◌⊎◌, inl, inr, ⊎_elim, List, [], ◌∷◌, ◌++◌}
 use Rattle.std.proofs.Common.{length, refl, ap, sym, ◌∙◌, subst, arith, append_assoc, length-append}
 use Rattle.fl_core.specs.Stages.{asked_by}
 use Rattle.fl_desk.specs.Replay.{state_after}
 use Rattle.fl_history.specs.declared.history.Line.{Line}
 use Rattle.fl_history.specs.declared.history.Line.TheVariants as line
 use Rattle.fl_order.specs.declared.order.Order.{Order}
-use Rattle.fl_order.specs.declared.told.Told.{Told}
 use Rattle.fl_judge.specs.Quiet.{asks_while_waiting, IsQuiet}
 use Rattle.fl_waiting.specs.declared.rules.Rules.{Rules}
 
@@ -34,16 +33,15 @@ quiet_before rules lines l quiet before worker order rest is =
     quiet before worker order (rest ++ l ∷ [])
     (ap (λ ls. ls ++ l ∷ []) is ∙ append_assoc before (line.Asked worker order ∷ rest) (l ∷ []))
 
--- a reply more
-pub quiet_told : (rules : Rules) (lines : List Line) (told : Told) (quiet : Bool) → (quiet ≡ true) ↔ IsQuiet rules lines
-    → (quiet ≡ true) ↔ IsQuiet rules (lines ++ line.Told told ∷ [])
-quiet_told rules lines told quiet known = (
-  λ so before worker order rest is. ⊎_elim
-      (λ here. absurd (let never : line.Told told ≡ line.Asked worker order = here.1 in cc never))
+-- a line more, which asks nothing
+pub quiet_beside : (rules : Rules) (lines : List Line) (l : Line) (quiet : Bool) → ((worker : ℕ) (order : Order) → l ≢ line.Asked worker order)
+    → (quiet ≡ true) ↔ IsQuiet rules lines → (quiet ≡ true) ↔ IsQuiet rules (lines ++ l ∷ [])
+quiet_beside rules lines l quiet other known = (
+  λ so before worker order rest is. ⊎_elim (λ here. absurd (other worker order here.1))
       (λ (there : (more : List Line) × (lines ≡ before ++ line.Asked worker order ∷ more)).
       (known.0 so) before worker order there.0 there.1)
-      (found lines before rest (line.Told told) (line.Asked worker order) is),
-  λ all. known.1 (quiet_before rules lines (line.Told told) all),
+      (found lines before rest l (line.Asked worker order) is),
+  λ all. known.1 (quiet_before rules lines l all),
 )
 
 both : (a b : Bool) → (a && not b) ≡ true → (a ≡ true) × (b ≡ false)

@@ -18,7 +18,7 @@ use Rattle.fl_waiting.specs.Waiting.{Wish, owner_of, wish_of, wishes, older_bloc
 use Rattle.fl_waiting.specs.declared.parked.Request.{Request}
 use Rattle.fl_waiting.specs.declared.rules.Rules.{Rules}
 use Rattle.fl_order.specs.declared.order.Order.{Order}
-use Rattle.fl_judge.specs.Quiet.{asks_while_waiting}
+use Rattle.fl_judge.specs.Quiet.{asks_while_waiting, AreLone}
 use Rattle.fl_judge.proofs.Circles.{none_once_parked, none_once_gained}
 use Rattle.fl_marks.specs.Conflict.{are_of_two_owners, mark_conflicts_by}
 use Rattle.fl_marks.specs.Marking.{Marking, class_number}
@@ -154,11 +154,6 @@ waiters_pushed older (v ∷ ws) w =
 -- none of the wishes is this owner's
 abbrev NoneOf : ℕ → List Wish → Type 0
 NoneOf owner ws = AllByRecursion (λ (w : Wish). owner_of w ≢ owner) ws
-
--- no two of them are one owner's
-abbrev AreLone : List Wish → Type 0
-AreLone [] = Unit {0}
-AreLone (w ∷ ws) = NoneOf (owner_of w) ws × AreLone ws
 
 part_lone : {xs ys : List Wish} → Part xs ys → AreLone ys → AreLone xs
 part_lone ends lone = tt

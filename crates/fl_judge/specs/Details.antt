@@ -1,8 +1,8 @@
 -- What is told of the lines of a trace, beside what is found.
-use Rattle.std.specs.Prelude.{◌≡◌, ℕ, ◌-◌, Option, Some, None, List, ◌∷◌, ◌++◌, length, take}
+use Rattle.std.specs.Prelude.{◌≡◌, ◌⊎◌, ℕ, ◌-◌, Option, Some, None, List, ◌∷◌, ◌++◌, length, take}
 use Rattle.std.specs.List.{slice_get}
 use Rattle.fl_desk.specs.Legal.{IsLegal, orders_asked}
-use Rattle.fl_desk.specs.Verdicts.{DiffersAt}
+use Rattle.fl_judge.specs.Verdicts.{DiffersAt, IsInsideHead}
 use Rattle.fl_history.specs.declared.history.Line.{Line}
 use Rattle.fl_history.specs.declared.history.Line.TheVariants as line
 use Rattle.fl_judge.specs.declared.details.Details.{Details}
@@ -12,9 +12,9 @@ use Rattle.fl_trace.specs.Text.{text_of, Fits}
 use Rattle.fl_waiting.specs.declared.rules.Rules.{Rules}
 
 -- The reply that has to come next: each legal history that begins with these lines goes on by it. If none has to, the
--- lines are one.
+-- lines are one, or end inside a head.
 abbrev pub IsDueBehind : Rules → List Line → Option Told → Type 0
-IsDueBehind rules lines None = IsLegal rules lines
+IsDueBehind rules lines None = IsLegal rules lines ⊎ IsInsideHead lines
 IsDueBehind rules lines (Some told) =
     (rest : List Line) → IsLegal rules (lines ++ rest) → (more : List Line) × (rest ≡ line.Told told ∷ more)
 

@@ -5,3 +5,4 @@ pub mod Hearing
 pub mod Inside
 pub mod Present
 pub mod Quiet
+pub mod Verdicts

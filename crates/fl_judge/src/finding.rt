@@ -3,7 +3,7 @@
 ghost use Rattle.fl_judge.specs.Audit.{IsFinding};
 
 use crate::judge::Judge;
-use fl_desk::Verdict;
+use crate::verdict::Verdict;
 use fl_history::Recent;
 use fl_order::NoMemory;
 
@@ -12,11 +12,11 @@ use fl_order::NoMemory;
 pub enum Finding {
     /// A single thread could have produced it, under the rules that it is judged by.
     Legal,
-    /// It isn't, but some legal trace begins with it: replies are missing at its end. This is said of a trace that
-    /// may be cut off, and of no other.
+    /// It isn't, but some legal trace begins with it: replies are missing at its end, or the end of a head. This is
+    /// said of a trace that may be cut off, and of no other.
     Begins,
     /// It isn't. This line, counted from 1, is the first that breaks the rules. If only replies are missing at its
-    /// end, this is the line after its last.
+    /// end, or the end of a head, this is the line after its last.
     Differs(usize),
 }
 

@@ -2,25 +2,28 @@
 
 ghost use Rattle.std.specs.Prelude.{◌≡◌, ◌↔◌, ◌<◌, ◌≤◌, ◌^◌, ◌++◌, ◌∷◌, [], true, length, IfOk, IfSome, IsSome};
 ghost use Rattle.fl_desk.specs.Legal.{orders_asked};
-ghost use Rattle.fl_desk.specs.Verdicts.{IsBeginning, IsVerdict};
+ghost use Rattle.fl_judge.specs.Verdicts.{IsBeginning, IsVerdict};
 ghost use Rattle.fl_judge.specs.Details.{IsDifferenceOf};
 ghost use Rattle.fl_judge.specs.Hearing.{unheard};
+ghost use Rattle.fl_history.specs.Place.{place_of};
 ghost use Rattle.fl_desk.specs.Kept.{IsKept};
-ghost use Rattle.fl_judge.specs.Present.{IsPresent, told_lines};
-ghost use Rattle.fl_judge.specs.Quiet.{IsQuiet, HasNoCircles};
+ghost use Rattle.fl_judge.specs.Present.{HasPresent, IsPresent, told_lines};
+ghost use Rattle.fl_judge.specs.Quiet.{IsQuiet, OpensCalm, HasNoCircles};
 
 use crate::details::Difference;
 use crate::laws::quiet_histories_have_no_circle;
 use crate::replay::Replay;
 use crate::resumed::{Missing, Resumed};
+use crate::verdict::Verdict;
 use fl_core::{Core, Rules};
-use fl_desk::Verdict;
-use fl_history::{Line, Past};
+use fl_desk::laws::a_head_leads_to_what_it_tells;
+use fl_history::{Line, Past, Place};
 use fl_order::NoMemory;
 use std::alloc::Global;
 use std::marker::Model;
 
-/// A judge of a history, which hears its lines one after another. It takes the orders anew, and compares the replies.
+/// A judge of a history, which hears its lines one after another. It takes what a head tells, and then the orders,
+/// anew, and compares the replies.
 /// Its memory is that of one directory and one list of replies, however many lines it hears. Contracts see it as a
 /// `Hearing`: the rules that it judges by, and the lines that it heard.
 #[derive(Drop)]
@@ -32,6 +35,7 @@ pub struct Judge {
     // The number of the first line that breaks the rules, and the line.
     differs: Option<usize>,
     found: Option<Line>,
+    place: Place,
     past: Past<Line>,
 }
 
@@ -40,12 +44,14 @@ impl Model for Judge {
 
     ghost Value = { Hearing };
 
+    ghost use Rattle.std.specs.Prelude.{◌≡◌};
     ghost use Rattle.fl_judge.specs.Inside.Heard.{IsHeard, IsNoted};
+    ghost use Rattle.fl_history.specs.Place.{place_of};
 
     ghost view = { λ j. record { rules = j.replay.core.rules; lines = j.past.items } };
 
     ghost invariant = { λ j. IsHeard j.past.items j.heard j.replay j.differs
-        × IsNoted j.past.items j.orders j.replay j.differs j.found };
+        × IsNoted j.past.items j.orders j.replay j.differs j.found × (j.place ≡ place_of j.past.items) };
 }
 
 impl Judge {
@@ -59,6 +65,7 @@ impl Judge {
             orders: 0,
             differs: None,
             found: None,
+            place: Place::nowhere(),
             past: Past::new(),
         })
     }
@@ -70,6 +77,7 @@ impl Judge {
     {
         self.past = self.past.and(line);
         self.heard += 1;
+        self.place = self.place.and(line);
         self.orders += orders_in(line);
         if self.differs.is_none() && !self.replay.take(line) {
             self.differs = Some(self.heard);
@@ -91,6 +99,13 @@ impl Judge {
         self.orders
     }
 
+    /// Where the lines that it heard end, if they are a piece of a longer history.
+    pub fn place(&self) -> Place
+        ensures { result ≡ place_of self.now.lines }
+    {
+        self.place
+    }
+
     /// What is to be said of all lines that it heard, as `check` says it of a history of them under its rules.
     pub fn verdict(&self) -> Verdict
         ensures { IsVerdict self.now.rules self.now.lines result }
@@ -106,11 +121,12 @@ impl Judge {
     pub fn difference(&self) -> Option<Difference>
         ensures { IsDifferenceOf self.now.rules self.now.lines result }
     {
+        a_head_leads_to_what_it_tells();
         let due = self.replay.due();
         if let Some(number) = self.differs {
             let found = self.found;
             Some(Difference { number, found, due })
-        } else if due.is_some() {
+        } else if self.replay.wants_more() {
             let (number, found) = (self.heard + 1, None);
             Some(Difference { number, found, due })
         } else {
@@ -126,12 +142,13 @@ impl Judge {
     }
 
     /// What is there after the lines that it heard, and after the replies that are missing at their end, as if these
-    /// had been given. None if no history that is legal under its rules begins with the lines.
+    /// had been given. None if no history that is legal under its rules begins with the lines, or they end inside a
+    /// head.
     pub fn present(&self) -> Option<&Core>
-        ensures some { IsSome result ↔ IsBeginning self.now.rules self.now.lines }
+        ensures some { IsSome result ↔ HasPresent self.now.rules self.now.lines }
         ensures is { IfSome result (λ core. IsPresent self.now.rules self.now.lines core.now) }
     {
-        if self.begins() {
+        if self.is_present() {
             Some(&self.replay.core)
         } else {
             None
@@ -139,14 +156,14 @@ impl Judge {
     }
 
     /// What a server goes on from after the lines that it heard: what is there, and the replies that are missing at
-    /// their end. None if no history that is legal under its rules begins with the lines. It takes no memory.
+    /// their end. None if `present` has nothing. It takes no memory.
     pub fn into_resumed(self) -> Option<Resumed>
-        ensures some { IsSome result ↔ IsBeginning self.rules self.lines }
+        ensures some { IsSome result ↔ HasPresent self.rules self.lines }
         ensures past { IfSome result (λ r. r.past.items ≡ self.lines) }
         ensures kept { IfSome result (λ r. IsKept (self.lines ++ told_lines r.missing) r.present) }
         ensures rules { IfSome result (λ r. r.present.rules ≡ self.rules) }
     {
-        if !self.begins() {
+        if !self.is_present() {
             return None;
         }
         let Judge { replay, past, .. } = self;
@@ -164,11 +181,13 @@ impl Judge {
     }
 
     /// Whether some history that is legal under its rules begins with the lines that it heard, and they are quiet: no
-    /// owner asks for a record lock while it waits for one, as `fl_judge` says. Then owners never wait in a circle.
+    /// owner asks for a record lock while it waits for one, as `fl_judge` says. Then owners never wait in a circle, if
+    /// no head tells that they do, or that one waits for two record locks.
     pub fn quiet(&self) -> bool
         ensures exact { (result ≡ true) ↔
             (IsBeginning self.now.rules self.now.lines × IsQuiet self.now.rules self.now.lines) }
-        ensures no_circle { result ≡ true → HasNoCircles self.now.rules self.now.lines }
+        ensures no_circle { result ≡ true → OpensCalm self.now.rules self.now.lines →
+            HasNoCircles self.now.rules self.now.lines }
     {
         quiet_histories_have_no_circle();
         let Judge {
@@ -177,6 +196,14 @@ impl Judge {
             ..
         } = self;
         differs.is_none() && replay.quiet
+    }
+
+    // Whether something is there after the lines that it heard.
+    fn is_present(&self) -> bool
+        ensures { (result ≡ true) ↔ HasPresent self.now.rules self.now.lines }
+    {
+        a_head_leads_to_what_it_tells();
+        self.begins() && !self.replay.is_telling()
     }
 }
 
@@ -187,6 +214,6 @@ fn orders_in(line: &Line) -> usize
 {
     match line {
         Line::Asked { .. } => 1,
-        Line::Told(_) => 0,
+        Line::Told(_) | Line::State(_) => 0,
     }
 }

@@ -1,7 +1,7 @@
 //! Reads a trace to its end, and says what is found.
 
 ghost use Rattle.std.specs.Prelude.{◌≡◌, ◌<◌, ◌^◌, ℕ, true, [], length, IfOk, IfSome, Err, is_some};
-ghost use Rattle.fl_trace.specs.Text.{BreaksAt, LineFits};
+ghost use Rattle.fl_trace.specs.Text.{text_of, BreaksAt, Fits, LineFits};
 ghost use Rattle.fl_judge.specs.Audit.{judged_part, whole_lines, IsAudited};
 ghost use Rattle.fl_judge.specs.Details.{AreDetailsOf, AreDetailsIn};
 ghost use Rattle.fl_judge.specs.First.{AreFirstLines, AreWholeLines, IsSoOfAll, IsWithin};
@@ -72,6 +72,32 @@ pub fn hear_first<R: Read>(
     ensures details { IfOk result (λ judge. AreDetailsOf judge.rules judge.lines details.new) }
 {
     match hear_all(alloc, rules, most, true, None, input, details) {
+        Ok(heard) => {
+            let (judge, _) = heard.judge.into_parts();
+            Ok(judge)
+        }
+        Err(fault) => Err(fault),
+    }
+}
+
+/// Reads a whole trace to its end, and gives a judge that heard all its lines. It takes memory as `audit` does.
+///
+/// A bad line is reported once all of the trace is read. Reading fails as that of `audit` does, and `details` gets what
+/// it gets there.
+pub fn hear_whole<R: Read>(
+    alloc: Global,
+    rules: Rules,
+    input: &mut R,
+    details: &mut Details,
+) -> Result<Judge, AuditFault>
+    ensures rules { IfOk result (λ judge. judge.rules ≡ rules) }
+    ensures heard { IfOk result (λ judge.
+        IsSoOfAll (R.remaining input.old) (λ text. (text ≡ text_of judge.lines) × Fits judge.lines)) }
+    ensures bad { (n : ℕ) → result ≡ Err (AuditFault.BadLine n) → IsSoOfAll (R.remaining input.old) (λ text.
+        BreaksAt LineFits text n) }
+    ensures details { IfOk result (λ judge. AreDetailsOf judge.rules judge.lines details.new) }
+{
+    match hear_all(alloc, rules, None, false, None, input, details) {
         Ok(heard) => {
             let (judge, _) = heard.judge.into_parts();
             Ok(judge)

@@ -9,7 +9,7 @@ use Rattle.fl_judge.specs.Inside.Hearing.{AreJudged, IsBad}
 use Rattle.fl_judge.specs.declared.finding.AuditFault.TheVariants as fault
 use Rattle.fl_trace.specs.Text.{LineFits, BreaksAt}
 use Rattle.fl_judge.specs.Quiet.{IsQuiet}
-use Rattle.fl_desk.specs.Verdicts.{IsBeginning}
+use Rattle.fl_judge.specs.Verdicts.{IsBeginning}
 use Rattle.fl_history.specs.declared.history.Line.{Line}
 use Rattle.fl_waiting.specs.declared.rules.Rules.{Rules}
 

@@ -4,4 +4,4 @@ use Rattle.fl_judge.proofs.judge.Judge.into_resumed.Goals as goal
 pub returns-clause-kept : goal.returns-clause-kept
 returns-clause-kept c =
     kept_then c.self.inside.past.items c.args.self c.self.inside.replay c.self.inside.differs c.self.view_is
-    (c.begins.ensures.0 c.if-not-begins.false) c.self.invariant.0.stands
+    (c.is_present.ensures.0 c.if-not-is_present.false) c.self.invariant.0.stands

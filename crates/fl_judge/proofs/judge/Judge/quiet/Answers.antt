@@ -7,10 +7,10 @@ returns-then-is_none-clause-exact c =
     c.self.invariant.0.stands
 
 pub returns-then-is_none-clause-no_circle : goal.returns-then-is_none-clause-no_circle
-returns-then-is_none-clause-no_circle c = λ quiet.
-    c.quiet_histories_have_no_circle.ensures c.args.self.now.rules c.args.self.now.lines
+returns-then-is_none-clause-no_circle c = λ quiet calm.
+    c.quiet_histories_have_no_circle.ensures.calm c.args.self.now.rules c.args.self.now.lines
     ((quiet_then c.self.inside.past.items c.args.self.now c.self.inside.replay c.self.inside.differs c.self.view_is c.if-is_none.ensures
-    c.self.invariant.0.stands).0 quiet).1
+    c.self.invariant.0.stands).0 quiet).1 calm
 
 pub returns-else-is_none-clause-exact : goal.returns-else-is_none-clause-exact
 returns-else-is_none-clause-exact c =
