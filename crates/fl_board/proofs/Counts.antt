@@ -25,6 +25,7 @@ orders_by worker lines = length (answered_by worker lines)
 abbrev is_asked_by : ℕ → Line → Bool
 is_asked_by worker (line.Asked asker order) = asker == worker
 is_asked_by worker (line.Told told) = false
+is_asked_by worker (line.State state) = false
 
 one_longer_if : (b : Bool) (a : Answered) (rest : List Answered)
     → length ((if b then a ∷ [] else []) ++ rest) ≡ one_if b + length rest
@@ -35,6 +36,7 @@ line_more : (worker : ℕ) (l : Line) (lines : List Line)
     → orders_by worker (l ∷ lines) ≡ one_if (is_asked_by worker l) + orders_by worker lines
 line_more worker (line.Asked asker order) lines = one_longer_if (asker == worker) _ (answered_by worker lines)
 line_more worker (line.Told told) lines = omega arith
+line_more worker (line.State state) lines = omega arith
 
 -- ---- each line is of one worker at most
 
@@ -84,6 +86,7 @@ all_zero (p ∷ places) = sum_by-cons (λ (q : Place). 0) p places ∙ ap (λ n.
 line_once : (l : Line) (places : List Place) → AreApart places → sum_by (λ (p : Place). one_if (is_asked_by p.worker l)) places ≤ one_if (is_asked l)
 line_once (line.Asked asker order) places apart = once_at_most asker places apart
 line_once (line.Told told) places apart = omega (arith, all_zero places)
+line_once (line.State state) places apart = omega (arith, all_zero places)
 
 split : (l : Line) (lines : List Line) (places : List Place)
     → by_each (l ∷ lines) places ≡ sum_by (λ (p : Place). one_if (is_asked_by p.worker l)) places + by_each lines places

@@ -10,7 +10,7 @@ ghost use Rattle.fl_record.specs.Seats.{AreApart};
 ghost use Rattle.fl_board.specs.Shown.{HasAllOf, HaveMet};
 ghost use Rattle.fl_record.specs.Shown.{AreHandedIn, IsHandedIn, IsShown, KeepsHanded};
 ghost use Rattle.fl_counter.specs.Tolds.{HasRoom};
-ghost use Rattle.fl_desk.specs.Legal.{IsLegal, LeavesLawful, orders_asked};
+ghost use Rattle.fl_desk.specs.Legal.{IsLegalFromNothing, LeavesLawful, orders_asked};
 ghost use Rattle.fl_order.specs.Order.{only_reads};
 
 use crate::shared::Shared;
@@ -252,7 +252,7 @@ impl<L: BoardName, R: Wait + Drop + Copy, J: Journal> Board<L, R, J> {
     /// has stored what counts as stored at each seat.
     pub fn into_journal(self, seats: Vec<Seat<L>>) -> Result<J, CloseFault<L, R, J>>
         requires { L.workers ≡ L.parts }
-        ensures legal { IfOk result (λ journal. IsLegal L.rules (J.lines journal)) }
+        ensures legal { IfOk result (λ journal. IsLegalFromNothing L.rules (J.lines journal)) }
         ensures lawful { IfOk result (λ journal. LeavesLawful L.rules (J.lines journal)) }
         ensures counted { IfOk result (λ journal.
             orders_asked (J.lines journal) ≡ sum_by (λ seat. seat.count) seats.items) }
@@ -314,7 +314,7 @@ impl<L: BoardName, R: Wait + Drop + Copy> Board<L, R> {
     /// with what counts as stored there. It has as many orders of each worker as its seat's count.
     pub fn close(self, seats: Vec<Seat<L>>) -> Result<History, CloseFault<L, R>>
         requires { L.workers ≡ L.parts }
-        ensures legal { IfOk result (IsLegal L.rules) }
+        ensures legal { IfOk result (IsLegalFromNothing L.rules) }
         ensures lawful { IfOk result (LeavesLawful L.rules) }
         ensures counted { IfOk result (λ history. orders_asked history ≡ sum_by (λ seat. seat.count) seats.items) }
         ensures each { IfOk result (λ history. All (λ seat. HasAllOf history seat) seats.items) }

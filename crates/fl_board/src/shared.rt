@@ -11,7 +11,7 @@ ghost use Rattle.fl_record.specs.Seats.{AreApart};
 ghost use Rattle.fl_board.specs.Shown.{HaveMet};
 ghost use Rattle.fl_record.specs.Shown.{AreHandedIn, IsHandedIn, KeepsHanded};
 ghost use Rattle.fl_counter.specs.Tolds.{HasRoom};
-ghost use Rattle.fl_desk.specs.Legal.{IsLegal, LeavesLawful, orders_asked};
+ghost use Rattle.fl_desk.specs.Legal.{IsLegalFromNothing, LeavesLawful, orders_asked};
 
 use crate::idle::Idle;
 use fl_core::{Rules, Tolds};
@@ -242,7 +242,7 @@ impl<L: BoardName, R: Wait + Drop + Copy, J: Journal> Shared<L, R, J> {
         requires all { (0 < L.parts) × (L.parts ≤ length seats.items) }
         ensures lines { J.lines result ≡ history_of L.rules self.asks }
         ensures stored { IsPrefix (history_of L.rules self.stored) (J.stored result) }
-        ensures legal { IsLegal L.rules (J.lines result) }
+        ensures legal { IsLegalFromNothing L.rules (J.lines result) }
         ensures lawful { LeavesLawful L.rules (J.lines result) }
         ensures counted { orders_asked (J.lines result) ≡ sum_by (λ seat. seat.count) seats.items }
     {

@@ -25,6 +25,7 @@ first_same : (xs ys : List Line) → BeginsAnew ys → first_tolds (xs ++ ys) �
 first_same [] ys anew = anew
 first_same (line.Told told ∷ xs) ys anew = ap (λ l. told ∷ l) (first_same xs ys anew)
 first_same (line.Asked worker order ∷ xs) ys anew = refl
+first_same (line.State state ∷ xs) ys anew = refl
 
 -- the order, with these replies, if it is of the worker
 abbrev answered_to : ℕ → ℕ → Order → List Told → List Answered
@@ -34,6 +35,7 @@ answered_more : (worker : ℕ) (xs ys : List Line) → BeginsAnew ys
     → answered_by worker (xs ++ ys) ≡ answered_by worker xs ++ answered_by worker ys
 answered_more worker [] ys anew = refl
 answered_more worker (line.Told told ∷ xs) ys anew = answered_more worker xs ys anew
+answered_more worker (line.State state ∷ xs) ys anew = answered_more worker xs ys anew
 answered_more worker (line.Asked asker order ∷ xs) ys anew =
     (λ i. answered_to worker asker order (first_same xs ys anew i) ++ answered_more worker xs ys anew i)
     ∙ sym (append_assoc (answered_to worker asker order (first_tolds xs)) (answered_by worker xs) (answered_by worker ys))

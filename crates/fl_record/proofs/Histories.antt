@@ -1,5 +1,5 @@
 -- The history that asks make.
-use Rattle.std.proofs.Common.{◌≡◌, ℕ, List, [], ◌∷◌, ◌++◌, map, refl, ap, sym, ◌∙◌, subst, append_assoc}
+use Rattle.std.proofs.Common.{◌≡◌, ◌↔◌, ℕ, List, [], ◌∷◌, ◌++◌, map, refl, ap, sym, ◌∙◌, subst, append_assoc}
 use Rattle.std.proofs.lemmas.List.{append-nil}
 use Rattle.std.proofs.lemmas.List.Sums.{fold-append}
 use Rattle.std.specs.List.{fold}
@@ -8,6 +8,7 @@ use Rattle.fl_record.specs.Asks.{lines_in, lines_from, history_of, stepped, pres
 use Rattle.fl_core.specs.State.{Snapshot, opening, snapshot_of}
 use Rattle.fl_core.specs.Step.{next, replies}
 use Rattle.fl_desk.specs.Leading.{LeadsTo}
+use Rattle.fl_desk.specs.Legal.{HasNoHead}
 use Rattle.fl_counter.specs.Answered.{step_lines}
 use Rattle.fl_history.specs.declared.history.Line.{Line}
 use Rattle.fl_history.specs.declared.history.Line.TheVariants as line
@@ -41,17 +42,26 @@ history_goes_on rules xs ys p = sym (lines_append (snapshot_of (opening rules)) 
 pub history_begins : (rules : Rules) (xs ys : List Ask) → IsPrefix xs ys → IsPrefix (history_of rules xs) (history_of rules ys)
 history_begins rules xs ys p = (lines_from (present_after rules xs) p.0, history_goes_on rules xs ys p)
 
+-- it has no head
+pub no_head : ((lines : List Line) (worker : ℕ) (order : Order) (tolds : List Told) → HasNoHead lines → HasNoHead (lines ++ step_lines worker order tolds))
+    → ((xs ys : List Line) → HasNoHead (xs ++ ys) ↔ (HasNoHead xs × HasNoHead ys)) → (p : Snapshot) (asks : List Ask) → HasNoHead (lines_from p asks)
+no_head step both p [] = refl
+no_head step both p (ask ∷ asks) = (both (lines_in p ask) (lines_from (stepped p ask) asks)).1
+    (step [] ask.worker ask.order (replies p ask.order) refl, no_head step both (stepped p ask) asks)
+
 -- ---- the asks are read off the history
 
 abbrev asks_in : List Line → List Ask
 asks_in [] = []
 asks_in (line.Asked worker order ∷ lines) = record { worker = worker; order = order } ∷ asks_in lines
 asks_in (line.Told told ∷ lines) = asks_in lines
+asks_in (line.State state ∷ lines) = asks_in lines
 
 asks_in_more : (xs ys : List Line) → asks_in (xs ++ ys) ≡ asks_in xs ++ asks_in ys
 asks_in_more [] ys = refl
 asks_in_more (line.Asked worker order ∷ xs) ys = ap (λ l. record { worker = worker; order = order } ∷ l) (asks_in_more xs ys)
 asks_in_more (line.Told told ∷ xs) ys = asks_in_more xs ys
+asks_in_more (line.State state ∷ xs) ys = asks_in_more xs ys
 
 asks_in_tolds : (tolds : List Told) (rest : List Line) → asks_in (map (λ told. line.Told told) tolds ++ rest) ≡ asks_in rest
 asks_in_tolds [] rest = refl

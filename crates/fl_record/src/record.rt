@@ -8,7 +8,7 @@ ghost use Rattle.fl_record.specs.Asks.{history_of};
 ghost use Rattle.fl_record.specs.Seats.{HasMostOf};
 ghost use Rattle.fl_record.specs.Shown.{AreHandedIn, IsHandedIn};
 ghost use Rattle.fl_counter.specs.Tolds.{HasRoom};
-ghost use Rattle.fl_desk.specs.Legal.{IsLegal, LeavesLawful, orders_asked};
+ghost use Rattle.fl_desk.specs.Legal.{IsLegalFromNothing, LeavesLawful, orders_asked};
 ghost use Rattle.fl_log.specs.Longer.{IsLonger};
 ghost use Rattle.fl_log.specs.Asked.{Ask as Handed, ask_of};
 
@@ -250,7 +250,7 @@ impl<L: BoardName, R: Wait + Drop + Copy, J: Journal> Record<L, R, J> {
         requires all { (0 < L.parts) × (L.parts ≤ length seats.items) }
         ensures lines { J.lines result ≡ history_of L.rules self.asks }
         ensures stored { J.stored result ≡ self.stored }
-        ensures legal { IsLegal L.rules (J.lines result) }
+        ensures legal { IsLegalFromNothing L.rules (J.lines result) }
         ensures lawful { LeavesLawful L.rules (J.lines result) }
         ensures counted { orders_asked (J.lines result) ≡ sum_by (λ seat. seat.count) seats.items }
     {

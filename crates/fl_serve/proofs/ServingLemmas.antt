@@ -11,7 +11,7 @@ use mathlib.Core.List.{IsPrefix}
 use Rattle.fl_record.specs.Seats.{Place}
 use Rattle.fl_board.specs.Shown.{HasAllOf}
 use Rattle.fl_counter.specs.Asked.{Orders}
-use Rattle.fl_desk.specs.Legal.{IsLegal}
+use Rattle.fl_desk.specs.Legal.{IsLegalFromNothing, nothing}
 use Rattle.fl_history.specs.declared.history.Line.{Line}
 use Rattle.fl_intake.specs.Often.{Weight}
 use Rattle.fl_log.specs.Appended.{Appended, HasAll as HasAllEntries}
@@ -243,6 +243,12 @@ unserved workers rules streams log broken stored done unread sent why none unref
   unrefused = λ _. unrefused;
 }
 
+-- the lines of a journal began with nothing, and so did none
+pub begun_lines : {K : Type 0} (rules : Rules) (lines : K → List Line) (journal : Option K)
+    → IfSome journal (λ k. IsLegalFromNothing rules (lines k)) → IsLegalFromNothing rules (journal_lines lines journal)
+begun_lines rules lines None legal = (nothing, refl)
+begun_lines rules lines (Some journal) legal = legal
+
 -- the same, of which nothing was recorded
 pub none_recorded : {K : Type 0} (lines stored : K → List Line) (workers : ℕ) (rules : Rules) (streams : Streams)
     (log : List ReplyEntry) (broken : Bool) (it : Recorded K) → (it.journal ≡ None) × (it.refused ≡ false)
@@ -252,7 +258,7 @@ pub none_recorded : {K : Type 0} (lines stored : K → List Line) (workers : ℕ
     → Keeps streams.left streams.left_now → (it.fault ≡ Some NoMemory → Keeps streams.held streams.held_now)
     → IsRecordedBy lines stored workers rules streams it
 none_recorded lines stored workers rules streams log broken it none why unread sent read wrote = record {
-  legal = subst (λ k. IfSome k (λ k. IsLegal rules (lines k))) (sym none.0) tt;
+  legal = subst (λ k. IfSome k (λ k. IsLegalFromNothing rules (lines k))) (sym none.0) tt;
   served = unserved workers rules streams log broken (journal_lines stored it.journal) (done_of lines it) unread sent why
       (ap (journal_lines lines) none.0) none.1;
   back = ⊎_elim (λ memory. inr (inl memory.0)) (λ reader. inr (inr reader)) why;
@@ -280,7 +286,7 @@ unstarted_recorded lines stored workers rules left left_now start held log broke
 -- the same, whose board was told; its rules, and what its writer held, have a name each
 pub all_recorded : {K : Type 0} (lines stored : K → List Line) (workers takers : ℕ) (rules by : Rules) (streams : Streams)
     (start : Option (List ℕ)) (it : Recorded K) → takers ≡ workers → rules ≡ by → streams.held ≡ start
-    → IfSome it.journal (λ k. IsLegal by (lines k))
+    → IfSome it.journal (λ k. IsLegalFromNothing by (lines k))
     → IsServedBy takers by (record streams { held = start }) (journal_lines stored it.journal) (done_of lines it)
     → IsSome it.journal ⊎ (it.fault ≡ Some NoReader) → it.fault ≢ Some NoMemory
     → (it.fault ≡ Some NoReader → it.journal ≡ None) → IsRecordedBy lines stored workers rules streams it

@@ -7,7 +7,7 @@ use mathlib.Core.List.{IsPrefix}
 use Rattle.fl_counter.specs.Answered.{answered_by}
 use Rattle.fl_desk.specs.Answered.{IsAnsweredAfter}
 use Rattle.fl_counter.specs.Asked.{Orders}
-use Rattle.fl_desk.specs.Legal.{IsLegal, orders_asked}
+use Rattle.fl_desk.specs.Legal.{IsLegalFromNothing, orders_asked}
 use Rattle.fl_history.specs.declared.history.Line.{Line}
 use Rattle.fl_intake.specs.Often.{AreAsOften}
 use Rattle.fl_pool.specs.Working.{some_is}
@@ -105,12 +105,12 @@ pub record IsServedBy (workers : ℕ) (rules : Rules) (streams : Streams) (store
   pub orders : AreDone workers rules messages stored parts done ⊎ HasNoHistory done
   pub unrefused : done.fault ≡ Some NoReader → done.refused ≡ false
 
--- The result of a session with so many workers under these rules whose lines went to a journal. They are legal, and
--- with them it served what was read. The journal is there, except at NoReader, and at NoMemory, when nothing was read
+-- The result of a session with so many workers under these rules whose lines went to a journal. They are legal and begin
+-- with nothing, and with them it served what was read. The journal is there, except at NoReader, and at NoMemory, when nothing was read
 -- or written. `lines` and `stored` are what a journal says of its lines.
 pub record IsRecordedBy {K : Type 0} (lines stored : K → List Line) (workers : ℕ) (rules : Rules) (streams : Streams)
     (it : Recorded K) : Type 0 where
-  pub legal : IfSome it.journal (λ journal. IsLegal rules (lines journal))
+  pub legal : IfSome it.journal (λ journal. IsLegalFromNothing rules (lines journal))
   pub served : IsServedBy workers rules streams (journal_lines stored it.journal) (done_of lines it)
   pub back : IsSome it.journal ⊎ (it.fault ≡ Some NoMemory) ⊎ (it.fault ≡ Some NoReader)
   pub nothing : it.fault ≡ Some NoMemory → (it.journal ≡ None) × Keeps streams.left streams.left_now

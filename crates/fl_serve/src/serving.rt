@@ -2,7 +2,7 @@
 
 ghost use Rattle.std.specs.Prelude.{◌≡◌, ◌≢◌, ◌≤◌, ◌<◌, ◌+◌, ◌⊎◌, [], IfSome, IsSome, None, Some, false, true};
 ghost use Rattle.std.specs.Io.KnownBytes.{Keeps};
-ghost use Rattle.fl_desk.specs.Legal.{IsLegal, LeavesLawful};
+ghost use Rattle.fl_desk.specs.Legal.{IsLegalFromNothing, LeavesLawful};
 ghost use Rattle.fl_serve.specs.Inside.Closing.{HasAll};
 ghost use Rattle.fl_serve.specs.Serve.{IsRecordedBy, IsServedBy};
 ghost use Rattle.fl_session.specs.Recorded.{done_of, journal_lines};
@@ -40,7 +40,7 @@ pub fn serve<R: Threads + Wait + Sync, I: Read, W: Write + Send + Drop, G: Gate 
     gate: &G,
 ) -> Done
     requires workers { (0 < workers) × (workers ≤ 16) }
-    ensures legal { IsLegal rules result.history }
+    ensures legal { IsLegalFromNothing rules result.history }
     ensures lawful { LeavesLawful rules result.history }
     ensures served { IsServedBy workers rules (record {
       left = I.remaining r.old;
@@ -155,7 +155,7 @@ fn closed<L: BoardName, P: Wait + Drop + Copy, J: Journal + Drop>(
     served: Served<Board<L, P, J>>,
 ) -> Recorded<J>
     requires { L.workers ≡ L.parts }
-    ensures legal { IfSome result.journal (λ journal. IsLegal L.rules (J.lines journal)) }
+    ensures legal { IfSome result.journal (λ journal. IsLegalFromNothing L.rules (J.lines journal)) }
     ensures told { HasAll served.seats.items served.refused served.fault (journal_lines J.stored result.journal)
         (done_of J.lines result) × (served.known ≡ true)
         ⊎ (result.fault ≡ Some Fault.NoReader) × (result.journal ≡ None) × (result.refused ≡ false) }

@@ -7,7 +7,7 @@ use Rattle.std.proofs.lemmas.List.{append_cancel_left}
 use mathlib.Core.List.{IsPrefix}
 use Rattle.fl_core.specs.State.{Snapshot, snapshot_of}
 use Rattle.fl_core.specs.Step.{replies, replies_in}
-use Rattle.fl_desk.specs.Leading.{GoesOn, LeadsTo, ends, goes}
+use Rattle.fl_desk.specs.Leading.{GoesOn, LeadsTo, ends, goes, heads}
 use Rattle.fl_counter.specs.Answered.{step_lines}
 use Rattle.fl_desk.specs.Legal.{IsLegal, nothing}
 use Rattle.fl_desk.specs.Replay.{state_after}
@@ -44,7 +44,7 @@ use Rattle.fl_wire.specs.Says.{said}
 pub record AreLegal : Type 0 where
   pub leads : (rules : Rules) (lines : List Line) → IsLegal rules lines → LeadsTo lines (snapshot_of (state_after rules lines))
   pub rules : (rules : Rules) (lines : List Line) → (state_after rules lines).rules ≡ rules
-  pub next : (before rest : List Line) (p : Snapshot) → LeadsTo before p → IsLegal p.rules (before ++ rest) → GoesOn p rest
+  pub next : (before rest : List Line) (p : Snapshot) → LeadsTo before p → IsLegal p.rules (before ++ rest) → GoesOn before p rest
 
 -- replies, as lines
 abbrev told_lines : List Told → List Line
@@ -84,14 +84,17 @@ replies_off (t ∷ tolds) (l ∷ part) rest after lines missing e f =
     replies_off tolds part rest after lines missing (cc e) (cc f)
 
 -- an order and its replies come next in both, or nothing comes
-step_off : (p : Snapshot) (order : Order) (after : List Line) (part rest : List Line) (missing : List Told)
-    → part ++ rest ≡ step_lines 0 order (replies p order) ++ after → GoesOn p (part ++ told_lines missing)
+step_off : (before : List Line) (p : Snapshot) (order : Order) (after : List Line) (part rest : List Line) (missing : List Told)
+    → part ++ rest ≡ step_lines 0 order (replies p order) ++ after → GoesOn before p (part ++ told_lines missing)
     → (part ++ told_lines missing ≡ [])
     ⊎ ((lines : List Line) × (part ++ told_lines missing ≡ step_lines 0 order (replies p order) ++ lines) × GoesBehind after lines)
-step_off p order after part rest missing f (ends none) = inl none
-step_off p order after [] rest [] f (goes worker other more e) = absurd (cc e)
-step_off p order after [] rest (m ∷ missing) f (goes worker other more e) = absurd (cc e)
-step_off p order after (l ∷ part) rest missing f (goes worker other more e) =
+step_off before p order after part rest missing f (ends none) = inl none
+step_off before p order after [] rest [] f (heads first head more e) = absurd (cc e)
+step_off before p order after [] rest (m ∷ missing) f (heads first head more e) = absurd (cc e)
+step_off before p order after (l ∷ part) rest missing f (heads first head more e) = absurd (cc (e, f))
+step_off before p order after [] rest [] f (goes worker other more e) = absurd (cc e)
+step_off before p order after [] rest (m ∷ missing) f (goes worker other more e) = absurd (cc e)
+step_off before p order after (l ∷ part) rest missing f (goes worker other more e) =
     let first : line.Asked worker other ≡ line.Asked 0 order = cc (e, f) in
     let same : other ≡ order = cc first in
     let replied : part ++ told_lines missing ≡ told_lines (replies p order) ++ more =
@@ -114,13 +117,13 @@ order_by laws rules before order all lines after sound legal whole behind =
     let p : Snapshot = snapshot_of s in
     let goes = behind.goes in
     let L : List Line → Type 0 = λ l. IsLegal (state_after rules before).rules l in
-    let on : GoesOn p (goes.part ++ told_lines goes.missing) =
+    let on : GoesOn before p (goes.part ++ told_lines goes.missing) =
     laws.next before (goes.part ++ told_lines goes.missing) p (laws.leads rules before sound)
     (subst L (behind.is ∙ ap (λ l. before ++ l) goes.is) (subst (λ r. IsLegal r lines) (sym (laws.rules rules before)) legal)) in
     let here : goes.part ++ goes.rest ≡ lines_in rules before order ++ after =
     append_cancel_left before (goes.part ++ goes.rest) (lines_in rules before order ++ after)
     (ap (λ l. before ++ l) (sym goes.all) ∙ sym behind.whole ∙ whole ∙ append_assoc before (lines_in rules before order) after) in
-    by (step_off p order after goes.part goes.rest goes.missing here on)
+    by (step_off before p order after goes.part goes.rest goes.missing here on)
   where
     by : (behind.goes.part ++ told_lines behind.goes.missing ≡ [])
         ⊎ ((more : List Line) × (behind.goes.part ++ told_lines behind.goes.missing ≡ lines_in rules before order ++ more)
@@ -343,10 +346,12 @@ record AreOfSome (s : Session) (came : List Came) (lines : List Line) : Type 0 w
   is : taken ++ left ≡ came
   are : AreBefore (session_from s taken) left lines
 
-only_replies : (p : Snapshot) (missing : List Told) → GoesOn p (told_lines missing) → told_lines missing ≡ []
-only_replies p missing (ends none) = none
-only_replies p [] (goes worker order rest e) = refl
-only_replies p (m ∷ missing) (goes worker order rest e) = absurd (cc e)
+only_replies : (before : List Line) (p : Snapshot) (missing : List Told) → GoesOn before p (told_lines missing) → told_lines missing ≡ []
+only_replies before p missing (ends none) = none
+only_replies before p [] (goes worker order rest e) = refl
+only_replies before p [] (heads first head rest e) = refl
+only_replies before p (m ∷ missing) (goes worker order rest e) = absurd (cc e)
+only_replies before p (m ∷ missing) (heads first head rest e) = absurd (cc e)
 
 no_part : (part rest : List Line) → part ++ rest ≡ [] → part ≡ []
 no_part [] rest e = refl
@@ -359,14 +364,14 @@ all_there laws s all lines sound legal whole behind =
     let p : Snapshot = snapshot_of (state_after s.rules s.lines) in
     let goes = behind.goes in
     let L : List Line → Type 0 = λ l. IsLegal (state_after s.rules s.lines).rules l in
-    let on : GoesOn p behind.behind =
+    let on : GoesOn s.lines p behind.behind =
     laws.next s.lines behind.behind p (laws.leads s.rules s.lines sound)
     (subst L behind.is (subst (λ r. IsLegal r lines) (sym (laws.rules s.rules s.lines)) legal)) in
     let nothing_more : behind.after ≡ [] =
     append_cancel_left s.lines behind.after [] (sym behind.whole ∙ whole ∙ sym (append-nil s.lines)) in
     let none : goes.part ≡ [] = no_part goes.part goes.rest (sym goes.all ∙ nothing_more) in
     let replies : behind.behind ≡ told_lines goes.missing = goes.is ∙ ap (λ l. l ++ told_lines goes.missing) none in
-    behind.is ∙ ap (λ l. s.lines ++ l) (replies ∙ only_replies p goes.missing (subst (GoesOn p) replies on)) ∙ append-nil s.lines
+    behind.is ∙ ap (λ l. s.lines ++ l) (replies ∙ only_replies s.lines p goes.missing (subst (GoesOn s.lines p) replies on)) ∙ append-nil s.lines
 
 -- one message, and then those behind it
 then_others : (s : Session) (c : Came) (came : List Came) (all lines : List Line)

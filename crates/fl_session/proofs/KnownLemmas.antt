@@ -18,7 +18,7 @@ use Rattle.fl_session.proofs.ParkedLemmas.{counted_free, others_counted, replied
 use Rattle.fl_session.proofs.RecallLemmas.{asks, asks_counted, behind_unsaid}
 use Rattle.fl_session.specs.Again.{incoming_under, response_under, unmarked}
 use Rattle.fl_session.specs.AsOne.{AreAsOne, replies_again, reply_again, reply_in, reply_unmarked}
-use Rattle.fl_session.specs.Known.{HaveBatch, HaveNothing, HaveOrder, HaveReply, IsBatchAgain, IsOrderAgain, unique_in}
+use Rattle.fl_session.specs.Known.{HaveBatch, HaveNothing, HaveOrder, HaveReply, IsBatchAgain, IsOf, IsOrderAgain}
 use Rattle.fl_session.specs.Once.{ComesAgain, IsUnknown, SaysTheSame, has_all, is_had, orders_in}
 use Rattle.fl_session.specs.Session.{Came, Session}
 use Rattle.fl_transport.specs.Handshake.{incoming_by, says_destroy}
@@ -57,11 +57,12 @@ has_each first other one again got two all =
 
 -- ---- a unique that no line has
 
-pub other_said : (unique : ℕ) (before : Recalled) (l : Line) → unique_in l ≢ unique → with_line unique before l ≡ before
+pub other_said : (unique : ℕ) (before : Recalled) (l : Line) → (IsOf unique l → ⊥) → with_line unique before l ≡ before
 other_said unique before (line.Asked worker order) other =
     ap (λ is. if is then with_ask before else before) (ne_eqb order.unique unique other)
 other_said unique before (line.Told told) other =
     ap (λ is. if is then recall.Told told else before) (ne_eqb told.unique unique other)
+other_said unique before (line.State state) other = refl
 
 pub others_said : (unique : ℕ) (before : Recalled) (lines : List Line) → HaveNothing unique lines
     → fold (with_line unique) before lines ≡ before

@@ -12,9 +12,11 @@ use Rattle.fl_history.specs.declared.history.Line.TheVariants as line
 use Rattle.fl_order.specs.declared.errno.Errno.{Errno}
 use Rattle.fl_order.specs.declared.order.LockAsk.{LockAsk}
 use Rattle.fl_order.specs.declared.order.Order.{Order}
+use Rattle.fl_order.specs.declared.state_part.StateLine.TheVariants as state
+use Rattle.fl_order.specs.declared.state_part.StatePart.TheVariants as part
 use Rattle.fl_order.specs.declared.told.Answer.{Answer}
 use Rattle.fl_order.specs.declared.told.Told.{Told}
-use Rattle.fl_session.specs.Known.{HaveNothing, HaveReply, unique_in}
+use Rattle.fl_session.specs.Known.{HaveNothing, HaveReply, IsOf}
 use Rattle.fl_waiting.specs.Waiting.{is_parked, taken_first, taken_out}
 use Rattle.fl_waiting.specs.declared.parked.Request.{Request}
 use Rattle.fl_waiting.specs.declared.rules.Rules.{Rules}
@@ -142,6 +144,8 @@ weight u r = many u r.state.view.parked + pending u r.waiting
 abbrev pub counted : ℕ → ℕ → Line → ℕ
 counted u n (line.Asked worker order) = n + bit (order.unique == u)
 counted u n (line.Told told) = n - bit (told.unique == u)
+counted u n (line.State (state.Part (part.Wait unique node ask))) = n + bit (unique == u)
+counted u n (line.State _) = n
 
 committed_most : (u : ℕ) (waiting : Option Order) (s : State)
     → many u (committed waiting s).view.parked ≤ many u s.view.parked + pending u waiting
@@ -204,6 +208,17 @@ reply_less u (Some order) told s = first_by (told.unique == order.unique) u orde
 line_counted : (u n : ℕ) (r : Reading) (l : Line) → weight u r ≤ n → weight u (read_line r l) ≤ counted u n l
 line_counted u n r (line.Asked worker order) le = let most = committed_most u r.waiting r.state in omega (arith, most, le)
 line_counted u n r (line.Told told) le = let less = reply_less u r.waiting told r.state in omega (arith, less, le)
+line_counted u n r (line.State (state.Head head)) le = omega arith
+line_counted u n r (line.State (state.Part (part.Node number lookups linked mode uid gid name))) le =
+    let most = committed_most u r.waiting r.state in omega (arith, most, le)
+line_counted u n r (line.State (state.Part (part.File fh node))) le = let most = committed_most u r.waiting r.state in omega (arith, most, le)
+line_counted u n r (line.State (state.Part (part.Lock node owner start end write pid flock))) le =
+    let most = committed_most u r.waiting r.state in omega (arith, most, le)
+line_counted u n r (line.State (state.Part (part.Wait unique node ask))) le =
+    let most = committed_most u r.waiting r.state in
+    let joined = many_append u (committed r.waiting r.state).view.parked (record { unique = unique; node = node; ask = ask } ∷ []) in
+    omega (arith, most, joined, le)
+line_counted u n r (line.State state.Go) le = let most = committed_most u r.waiting r.state in omega (arith, most, le)
 
 lines_counted : (u n : ℕ) (r : Reading) (lines : List Line) → weight u r ≤ n
     → weight u (fold read_line r lines) ≤ fold (counted u) n lines
@@ -228,10 +243,17 @@ pub counted_free : (u : ℕ) (rules : Rules) (lines : List Line) → fold (count
 counted_free u rules lines e = none_parked u (state_after rules lines).view.parked (counted_none u rules lines e)
 
 -- lines of other uniques don't count
-other_counted : (u n : ℕ) (l : Line) → unique_in l ≢ u → counted u n l ≡ n
+other_counted : (u n : ℕ) (l : Line) → (IsOf u l → ⊥) → counted u n l ≡ n
 other_counted u n (line.Asked worker order) other =
     ap (λ b. n + bit b) (ne_eqb order.unique u other) ∙ omega arith
 other_counted u n (line.Told told) other = ap (λ b. n - bit b) (ne_eqb told.unique u other) ∙ omega arith
+other_counted u n (line.State (state.Head head)) other = refl
+other_counted u n (line.State (state.Part (part.Node number lookups linked mode uid gid name))) other = refl
+other_counted u n (line.State (state.Part (part.File fh node))) other = refl
+other_counted u n (line.State (state.Part (part.Lock node owner start end write pid flock))) other = refl
+other_counted u n (line.State (state.Part (part.Wait unique node ask))) other =
+    ap (λ b. n + bit b) (ne_eqb unique u other) ∙ omega arith
+other_counted u n (line.State state.Go) other = refl
 
 pub others_counted : (u n : ℕ) (lines : List Line) → HaveNothing u lines → fold (counted u) n lines ≡ n
 others_counted u n [] none = refl

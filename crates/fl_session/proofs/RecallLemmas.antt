@@ -37,6 +37,7 @@ line_unsaid : (unique : ℕ) (before : Recalled) (l : Line) → with_line unique
     → before ≡ recall.Asked 0
 line_unsaid unique before (line.Asked worker order) e = ask_unsaid (order.unique == unique) before e
 line_unsaid unique before (line.Told told) e = tell_unsaid (told.unique == unique) before told e
+line_unsaid unique before (line.State state) e = e
 
 front_unsaid : (unique : ℕ) (before : Recalled) (lines : List Line)
     → fold (with_line unique) before lines ≡ recall.Asked 0 → before ≡ recall.Asked 0

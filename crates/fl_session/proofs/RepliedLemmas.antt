@@ -28,7 +28,7 @@ use Rattle.fl_session.proofs.ParkedLemmas.{asked_one, bit, counted, counted_free
 use Rattle.fl_session.specs.Again.{incoming_under, unmarked}
 use Rattle.fl_session.specs.AsOne.{replies_again, reply_again, reply_had, reply_unmarked}
 use Rattle.fl_session.specs.Client.{AreOnesAgain, HasTaken, IsNear, IsOneAgain}
-use Rattle.fl_session.specs.Known.{HaveNothing, unique_in}
+use Rattle.fl_session.specs.Known.{HaveNothing, IsOf}
 use Rattle.fl_session.specs.Once.{SaysTheSame}
 use Rattle.fl_session.specs.Session.{Came, Session, opening_session, session_from, session_of, with_incoming, with_message, with_order}
 use Rattle.fl_session.specs.Session.{with_orders}
@@ -233,10 +233,10 @@ message_one settles c order says t lacks far sound none e =
 
 -- ---- what is sent again
 
-nothing_of : (u : ℕ) (lines : List Line) (l : Line) → HaveNothing u lines → Contains lines l → unique_in l ≡ u → ⊥
+nothing_of : (u : ℕ) (lines : List Line) (l : Line) → HaveNothing u lines → Contains lines l → IsOf u l → ⊥
 nothing_of u [] l none in_it e = let lt = in_it.1 in omega (arith, lt)
 nothing_of u (x ∷ lines) l none in_it e =
-    ⊎_elim (λ head. none.0 (ap unique_in (sym (head_is x l head)) ∙ e)) (λ tail. nothing_of u lines l none.1 tail e)
+    ⊎_elim (λ head. none.0 (subst (IsOf u) (head_is x l head) e)) (λ tail. nothing_of u lines l none.1 tail e)
     (Contains-append_cases (x ∷ []) lines l in_it)
 
 -- a reply that stands in lines of which only one line can be of its unique

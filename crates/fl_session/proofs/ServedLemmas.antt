@@ -143,12 +143,6 @@ unserved rules left left_now held held_now done history fault refused unread kep
   ending = inr (rw fault (refl, refl));
 }
 
--- the lines of a journal are legal, and no lines if there is none
-pub recorded_legal : {K : Type 0} (rules : Rules) (lines : K → List Line) (journal : Option K)
-    → IfSome journal (λ k. IsLegal rules (lines k)) → IsLegal rules (journal_lines lines journal)
-recorded_legal rules lines None legal = nothing
-recorded_legal rules lines (Some journal) legal = legal
-
 -- what is so of each journal is so of one that is there
 there_of : {K : Type 0} (IsSo : K → Type 0) (Q : Type 0) (journal : Option K) → IsSome journal → IfSome journal IsSo
     → ((k : K) → IsSo k → Q) → Q

@@ -6,6 +6,8 @@ use Rattle.fl_history.specs.declared.history.Line.{Line}
 use Rattle.fl_history.specs.declared.history.Line.TheVariants as line
 use Rattle.fl_order.specs.declared.order.Order.{Order}
 use Rattle.fl_order.specs.declared.refusal.Refusal.TheVariants.{Batch}
+use Rattle.fl_order.specs.declared.state_part.StateLine.TheVariants as state
+use Rattle.fl_order.specs.declared.state_part.StatePart.TheVariants as part
 use Rattle.fl_order.specs.declared.told.Told.{Told}
 use Rattle.fl_session.specs.Again.{unmarked}
 use Rattle.fl_session.specs.Once.{SaysTheSame}
@@ -14,14 +16,16 @@ use Rattle.fl_wire.specs.Batch.{forgets_in}
 use Rattle.fl_wire.specs.Layout.{unique_of}
 use Rattle.fl_wire.specs.Says.{said}
 
--- the unique of a line
-abbrev pub unique_in : Line → ℕ
-unique_in (line.Asked worker order) = order.unique
-unique_in (line.Told told) = told.unique
+-- a line is of this unique: an order, a reply, or a request that a head tells
+abbrev pub IsOf : ℕ → Line → Type 0
+IsOf unique (line.Asked worker order) = order.unique ≡ unique
+IsOf unique (line.Told told) = told.unique ≡ unique
+IsOf unique (line.State (state.Part (part.Wait other node ask))) = other ≡ unique
+IsOf unique (line.State _) = ⊥
 
--- no line has this unique
+-- no line is of this unique
 abbrev pub HaveNothing : ℕ → List Line → Type 0
-HaveNothing unique lines = AllByRecursion (λ (l : Line). unique_in l ≢ unique) lines
+HaveNothing unique lines = AllByRecursion (λ (l : Line). IsOf unique l → ⊥) lines
 
 -- Of this unique lines have one order, and no reply. Fewer than 65,536 lines stand behind the order.
 pub record HaveOrder (lines : List Line) (unique : ℕ) : Type 0 where

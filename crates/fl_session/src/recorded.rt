@@ -1,8 +1,7 @@
 //! The result of a session whose lines went to a journal.
 
-ghost use Rattle.std.specs.Prelude.{◌≡◌, ℕ, List, [], Option, None, Some, false, IfSome};
+ghost use Rattle.std.specs.Prelude.{◌≡◌, ℕ, List, [], Option, None, Some, false};
 ghost use Rattle.std.specs.Io.KnownBytes.{Keeps};
-ghost use Rattle.fl_desk.specs.Legal.{IsLegal};
 ghost use Rattle.fl_session.specs.Recorded.{done_of};
 ghost use Rattle.fl_transport.specs.Ending.{IsRead};
 ghost use Rattle.fl_waiting.specs.declared.rules.Rules.{Rules};
@@ -45,8 +44,6 @@ impl Recorded<Lines> {
     /// The same, with the lines as its history.
     pub fn into_done(self, alloc: Global) -> Done
         ensures is { result ≡ done_of (λ lines. lines.items) self }
-        ensures legal { (rules : Rules) → IfSome self.journal (λ lines. IsLegal rules lines.items)
-            → IsLegal rules result.history }
     {
         let Recorded {
             journal,

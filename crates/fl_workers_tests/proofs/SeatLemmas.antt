@@ -16,6 +16,7 @@ first_same : (worker : ℕ) (order : Order) (tolds : List Told) (lines : List Li
 first_same worker order tolds [] = refl
 first_same worker order tolds (line.Told told ∷ lines) = ap (λ l. told ∷ l) (first_same worker order tolds lines)
 first_same worker order tolds (line.Asked asker other ∷ lines) = refl
+first_same worker order tolds (line.State state ∷ lines) = refl
 
 first_are : (tolds : List Told) → first_tolds (map (λ told. line.Told told) tolds) ≡ tolds
 first_are [] = refl
@@ -40,6 +41,7 @@ answered_behind worker order tolds [] =
     (λ i. answered_to worker worker order (first_are tolds i) ++ none_asked worker tolds i)
     ∙ (λ i. (if same_number worker i then answered order tolds ∷ [] else []) ++ [])
 answered_behind worker order tolds (line.Told told ∷ lines) = answered_behind worker order tolds lines
+answered_behind worker order tolds (line.State state ∷ lines) = answered_behind worker order tolds lines
 answered_behind worker order tolds (line.Asked asker other ∷ lines) =
     (λ i. answered_to worker asker other (first_same worker order tolds lines i)
     ++ answered_behind worker order tolds lines i)

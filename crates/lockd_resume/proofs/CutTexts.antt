@@ -1,21 +1,28 @@
 -- What is read of a text that was cut off.
-use Rattle.std.proofs.Common.{◌≡◌, ◌⊎◌, inl, inr, ℕ, suc, Bool, true, false, ◌||◌, ◌==◌, if◌then◌else◌}
+use Rattle.std.proofs.Common.{◌≡◌, ◌⊎◌, inl, inr, ℕ, suc, Bool, true, false, ◌||◌, ◌==◌, ◌↔◌, cond, if◌then◌else◌}
 use Rattle.std.proofs.Common.{List, [], ◌∷◌, ◌++◌}
-use Rattle.std.proofs.Common.{length, refl, ap, sym, ◌∙◌, subst, arith, append_assoc, append-nil, length-append}
+use Rattle.std.proofs.Common.{length, map, refl, ap, sym, ◌∙◌, subst, arith, append_assoc, append-nil, length-append}
 use Rattle.std.proofs.lemmas.Bool.{ne_eqb}
 use Rattle.std.proofs.lemmas.List.{append_cancel_left}
 use Rattle.std.proofs.lemmas.List.Elements.{All-head, All-tail, All-cons, All-nil}
 use Rattle.std.proofs.lemmas.List.Folds.{list_any-append}
+use Rattle.std.proofs.lemmas.List.Sums.{sum_by-cons}
+use Rattle.std.specs.List.{fold}
 use Rattle.std.specs.Str.Iter.{LacksByte}
 use mathlib.Core.List.{IsPrefix}
 use Rattle.fl_history.specs.declared.history.Line.{Line}
 use Rattle.fl_judge.specs.Audit.{has_newline, whole_lines}
+use Rattle.fl_history.specs.declared.history.Line.TheVariants as line
 use Rattle.fl_judge.specs.First.{AreWholeLines}
-use Rattle.fl_desk.specs.Legal.{IsLegal}
+use Rattle.fl_history.specs.Place.{nowhere, with_place}
+use Rattle.fl_history.specs.declared.place.Place.{Place}
+use Rattle.fl_desk.specs.Legal.{HasNoHead, IsLegal, IsLegalFromNothing, is_state}
+use Rattle.fl_order.specs.declared.state_part.StateLine.{StateLine}
+use Rattle.fl_order.specs.declared.state_part.StateLine.TheVariants as state
 use Rattle.fl_waiting.specs.declared.rules.Rules.{Rules}
 use Rattle.lockd_faults.specs.declared.fault.CommandFault.{CommandFault}
 use Rattle.lockd_faults.specs.declared.fault.CommandFault.TheVariants as command
-use Rattle.lockd_resume.specs.Behind.{DiffersIn, FileSays}
+use Rattle.lockd_resume.specs.Behind.{DiffersIn, FileSays, IsHeaded}
 use Rattle.fl_trace.specs.Text.{BreaksAt, line_text, text_of, Fits, LineFits}
 
 -- what `fl_trace` says of the text of lines
@@ -24,6 +31,18 @@ AreApart = (lines others : List Line) → Fits lines → Fits others → text_of
 
 abbrev pub LackNewlines : Type 0
 LackNewlines = (line : Line) → LineFits line → LacksByte 10 (line_text line)
+
+-- a line of a head isn't there
+state_not : (s : StateLine) (lines : List Line) → HasNoHead (line.State s ∷ lines) → ⊥
+state_not s lines none =
+    let all = sum_by-cons (λ x. cond (is_state x) 1 0) (line.State s) lines in omega (arith, all, none)
+
+-- lines without a head aren't headed
+no_head_there : (p : Place) (lines : List Line) → HasNoHead lines → (fold with_place p lines).headed ≡ p.headed
+no_head_there p [] none = refl
+no_head_there p (line.Asked worker order ∷ lines) none = no_head_there (with_place p (line.Asked worker order)) lines none
+no_head_there p (line.Told told ∷ lines) none = no_head_there (with_place p (line.Told told)) lines none
+no_head_there p (line.State s ∷ lines) none = absurd (state_not s lines none)
 
 -- ---- newlines
 
@@ -204,29 +223,50 @@ module _ (apart : AreApart) (lacks : LackNewlines) where
       let w = wholes all text fits begins in
       never w.0 n w.1 (subst (λ t. BreaksAt LineFits t n) w.2 breaks)
 
+  -- nor have they a head
+  headless : ((xs ys : List Line) → HasNoHead (xs ++ ys) ↔ (HasNoHead xs × HasNoHead ys)) → (text : List ℕ)
+      (all lines : List Line) (bytes : ℕ) → Fits all → HasNoHead all → IsPrefix text (text_of all)
+      → AreWholeLines text lines bytes → HasNoHead lines
+  headless both text all lines bytes fits none begins are =
+      let rest = front text all lines bytes fits begins are in
+      ((both lines rest.0).0 (subst HasNoHead (sym rest.1) none)).0
+
   -- and if they are legal, it is said of no line that it differs
-  never_differs : (rules : Rules) (text : List ℕ) (all : List Line) (n : ℕ) → Fits all → IsLegal rules all
+  never_differs : ((xs ys : List Line) → HasNoHead (xs ++ ys) ↔ (HasNoHead xs × HasNoHead ys)) → (rules : Rules)
+      (text : List ℕ) (all : List Line) (n : ℕ) → Fits all → IsLegalFromNothing rules all
       → IsPrefix text (text_of all) → DiffersIn rules text n → ⊥
-  never_differs rules text all n fits legal begins it =
+  never_differs both rules text all n fits legal begins it =
       let rest = front text all it.lines it.bytes fits begins it.are in
-      it.none (record { rest = rest.0; legal = subst (IsLegal rules) (sym rest.1) legal })
+      let none = headless both text all it.lines it.bytes fits legal.1 begins it.are in
+      it.none (record {
+        begins = record { rest = rest.0; legal = subst (IsLegal rules) (sym rest.1) legal.0 };
+        outside = λ inside. state_not (state.Head inside.head)
+            (map (λ part. line.State (state.Part part)) inside.parts) (subst HasNoHead inside.begun none);
+      })
+
+  never_headed : ((xs ys : List Line) → HasNoHead (xs ++ ys) ↔ (HasNoHead xs × HasNoHead ys)) → (text : List ℕ)
+      (all : List Line) → Fits all → HasNoHead all → IsPrefix text (text_of all) → IsHeaded text → ⊥
+  never_headed both text all fits none begins it =
+      let alone = no_head_there nowhere it.lines (headless both text all it.lines it.bytes fits none begins it.are) in
+      cc (alone, it.headed)
 
   pub never_refused : ((lines : List Line) (n : ℕ) → Fits lines → BreaksAt LineFits (text_of lines) n → ⊥)
-      → (rules : Rules) (text : List ℕ) (all : List Line) (fault : CommandFault) → Fits all → IsLegal rules all
+      → ((xs ys : List Line) → HasNoHead (xs ++ ys) ↔ (HasNoHead xs × HasNoHead ys)) → (rules : Rules) (text : List ℕ) (all : List Line) (fault : CommandFault) → Fits all → IsLegalFromNothing rules all
       → IsPrefix text (text_of all) → FileSays rules text fault
       → (fault ≡ command.NoMemory) ⊎ (fault ≡ command.Read)
-  never_refused never rules text all (command.BadLine n) fits legal begins says =
+  never_refused never both rules text all (command.BadLine n) fits legal begins says =
       absurd (never_bad never text all n fits begins says)
-  never_refused never rules text all (command.Differs n) fits legal begins says =
-      absurd (never_differs rules text all n fits legal begins says)
-  never_refused never rules text all command.NoMemory fits legal begins says = inl refl
-  never_refused never rules text all command.Read fits legal begins says = inr refl
-  never_refused never rules text all command.NoReader fits legal begins says = absurd says
-  never_refused never rules text all command.Listen fits legal begins says = absurd says
-  never_refused never rules text all command.Write fits legal begins says = absurd says
-  never_refused never rules text all command.Cut fits legal begins says = absurd says
-  never_refused never rules text all (command.BadLength n) fits legal begins says = absurd says
-  never_refused never rules text all command.Connect fits legal begins says = absurd says
-  never_refused never rules text all command.BadReply fits legal begins says = absurd says
-  never_refused never rules text all command.Trace fits legal begins says = absurd says
-  never_refused never rules text all command.TraceFailed fits legal begins says = absurd says
+  never_refused never both rules text all (command.Differs n) fits legal begins says =
+      absurd (never_differs both rules text all n fits legal begins says)
+  never_refused never both rules text all command.NoMemory fits legal begins says = inl refl
+  never_refused never both rules text all command.Read fits legal begins says = inr refl
+  never_refused never both rules text all command.NoReader fits legal begins says = absurd says
+  never_refused never both rules text all command.Listen fits legal begins says = absurd says
+  never_refused never both rules text all command.Write fits legal begins says = absurd says
+  never_refused never both rules text all command.Cut fits legal begins says = absurd says
+  never_refused never both rules text all (command.BadLength n) fits legal begins says = absurd says
+  never_refused never both rules text all command.Connect fits legal begins says = absurd says
+  never_refused never both rules text all command.BadReply fits legal begins says = absurd says
+  never_refused never both rules text all command.Trace fits legal begins says =
+      absurd (never_headed both text all fits legal.1 begins says)
+  never_refused never both rules text all command.TraceFailed fits legal begins says = absurd says

@@ -139,7 +139,7 @@ pub record ListingFits (d : Listing) : Type 0 where
   pub next_node : d.next_node < 2 ^ 64
   pub next_fh : d.next_fh < 2 ^ 64
 
-nodes_insert : (nodes : FinMap nat_cmp Node) (number : ℕ) (node : Node) → NodesFit nodes → NodeFits number node
+pub nodes_insert : (nodes : FinMap nat_cmp Node) (number : ℕ) (node : Node) → NodesFit nodes → NodeFits number node
     → NodesFit (insert nodes number node)
 nodes_insert nodes k v fits own q node e =
     go (eq_by_cmp nat_cmp q k) refl (sym (get-insert nat_cmp_total nodes k v q) ∙ e)

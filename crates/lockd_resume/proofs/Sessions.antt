@@ -22,7 +22,7 @@ use Rattle.fl_waiting.specs.declared.rules.Rules.{Rules}
 use Rattle.fl_wire.specs.Layout.{opcode_of, unique_of}
 use Rattle.fl_wire.specs.Says.{said}
 use Rattle.lockd_resume.specs.Said.{CanBeSaid}
-use Rattle.lockd_resume.proofs.Histories.{AskedFits, legal_fits}
+use Rattle.lockd_resume.proofs.Histories.{AskedFits, TellsEach, legal_fits}
 use Rattle.lockd_resume.proofs.Steps.{IsNamed, LastCounts}
 
 record SessionFits (s : Session) : Type 0 where
@@ -91,9 +91,9 @@ from_fits s (c ∷ came) can fits =
     from_fits (with_message s c) came (All-tail CanBeSaid c came can)
     (message_fits s c (All-head CanBeSaid c came can) fits)
 
-pub session_fits : LastCounts → IsNamed → (rules : Rules) (came : List Came) → All CanBeSaid came
+pub session_fits : LastCounts → IsNamed → TellsEach → (rules : Rules) (came : List Came) → All CanBeSaid came
     → Fits (session_of rules came).lines
-session_fits last named rules came can =
+session_fits last named each rules came can =
     let s = from_fits (opening_session rules) came can
     (record { legal = nothing; asked = All-nil AskedFits; plain = refl }) in
-    legal_fits last named (session_of rules came).rules (session_of rules came).lines s.legal s.asked
+    legal_fits last named each (session_of rules came).rules (session_of rules came).lines s.legal s.asked

@@ -1,7 +1,9 @@
 -- A server that goes on behind the lines of a trace's file.
-use Rattle.std.specs.Prelude.{ℕ, Bool, true, false, List, Option, Some, ⊤}
+use Rattle.std.specs.Prelude.{◌≡◌, ℕ, Bool, true, false, List, Option, Some, ⊤}
 use Rattle.fl_desk.specs.Legal.{IsLegal}
-use Rattle.fl_desk.specs.Verdicts.{IsBeginning, DiffersAt}
+use Rattle.fl_history.specs.Place.{place_of}
+use Rattle.fl_judge.specs.Present.{HasPresent}
+use Rattle.fl_judge.specs.Verdicts.{DiffersAt}
 use Rattle.fl_history.specs.declared.history.Line.{Line}
 use Rattle.fl_judge.specs.Audit.{whole_lines}
 use Rattle.fl_judge.specs.First.{AreWholeLines}
@@ -15,19 +17,27 @@ use Rattle.lockd_faults.specs.declared.fault.CommandFault.{CommandFault}
 use Rattle.lockd_faults.specs.declared.fault.CommandFault.TheVariants as command
 use Rattle.lockd_resume.specs.Ending.{Ending, Ends, EndsUntraced, told_of}
 
--- No legal history begins with the whole lines of a text, and the line of this number is the first that breaks the
--- rules.
+-- No legal history begins with the whole lines of a text, or they end inside a head, and the line of this number is the
+-- first that breaks the rules.
 pub record DiffersIn (rules : Rules) (text : List ℕ) (n : ℕ) : Type 0 where
   pub lines : List Line
   pub bytes : ℕ
   pub are : AreWholeLines text lines bytes
   pub differs : DiffersAt rules lines n
-  pub none : IsBeginning rules lines → ⊥
+  pub none : HasPresent rules lines → ⊥
+
+-- the whole lines of a text begin with a line of a head
+pub record IsHeaded (text : List ℕ) : Type 0 where
+  pub lines : List Line
+  pub bytes : ℕ
+  pub are : AreWholeLines text lines bytes
+  pub headed : (place_of lines).headed ≡ true
 
 -- what a fault says of the text of a trace's file, from which no server goes on
 abbrev pub FileSays : Rules → List ℕ → CommandFault → Type 0
 FileSays rules text (command.BadLine n) = BreaksAt LineFits (whole_lines text) n
 FileSays rules text (command.Differs n) = DiffersIn rules text n
+FileSays rules text command.Trace = IsHeaded text
 FileSays rules text command.NoMemory = ⊤
 FileSays rules text command.Read = ⊤
 FileSays rules text fault = ⊥

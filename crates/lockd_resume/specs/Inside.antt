@@ -1,6 +1,7 @@
 -- Why a server doesn't go on behind a trace. No contract of a public function cites these definitions.
 use Rattle.std.specs.Prelude.{◌≡◌, ℕ, List}
-use Rattle.fl_desk.specs.Verdicts.{IsBeginning, DiffersAt}
+use Rattle.fl_judge.specs.Present.{HasPresent}
+use Rattle.fl_judge.specs.Verdicts.{DiffersAt}
 use Rattle.fl_history.specs.declared.history.Line.{Line}
 use Rattle.fl_judge.specs.declared.finding.AuditFault.{AuditFault}
 use Rattle.fl_judge.specs.declared.finding.AuditFault.TheVariants as reading
@@ -14,9 +15,9 @@ told_of_reading (reading.BadLine n) = command.BadLine n
 told_of_reading reading.NoMemory = command.NoMemory
 told_of_reading reading.Read = command.Read
 
--- no legal history begins with these lines, and this fault says where they differ
+-- no legal history begins with these lines, or they end inside a head, and this fault says where they differ
 pub record DiffersBy (rules : Rules) (lines : List Line) (fault : CommandFault) : Type 0 where
   pub line : ℕ
   pub is : fault ≡ command.Differs line
   pub differs : DiffersAt rules lines line
-  pub none : IsBeginning rules lines → ⊥
+  pub none : HasPresent rules lines → ⊥

@@ -3,11 +3,12 @@
 
 ghost use Rattle.std.specs.Prelude.{◌≡◌, ◌⊎◌, ◌++◌, ℕ, All, Contains, List};
 ghost use mathlib.Core.List.{IsPrefix};
-ghost use Rattle.fl_desk.specs.Legal.{IsLegal};
+ghost use Rattle.fl_desk.specs.Legal.{IsLegal, IsLegalFromNothing};
 ghost use Rattle.fl_history.specs.declared.history.Line.{Line};
 ghost use Rattle.fl_history.specs.declared.history.Line.TheVariants as line;
 ghost use Rattle.fl_judge.specs.First.{AreWholeLines};
 ghost use Rattle.fl_order.specs.declared.order.Order.{Order};
+ghost use Rattle.fl_order.specs.declared.state_part.StateLine.{StateLine};
 ghost use Rattle.fl_order.specs.declared.told.Told.{Told};
 ghost use Rattle.fl_session.specs.CutOff.{AreTakenOf, with_replies};
 ghost use Rattle.fl_session.specs.Session.{Came, session_of};
@@ -18,20 +19,25 @@ ghost use Rattle.lockd_faults.specs.declared.fault.CommandFault.TheVariants as c
 ghost use Rattle.lockd_resume.specs.Behind.{FileSays};
 ghost use Rattle.lockd_resume.specs.Said.{CanBeSaid};
 
+use fl_desk::laws::no_head_comes_later;
 use fl_ranges::laws::{blocker_is_the_first_lock_in_conflict, last_change_counts};
 use fl_session::laws::what_a_cut_session_leaves_is_a_session;
+use fl_state::laws::parts_are_told_one_by_one;
 use fl_trace::laws::{
     a_line_is_short, a_text_breaks_at_one_line_at_most, no_text_is_that_of_two_histories,
 };
 
-/// A legal history can be read back from its text if its orders can: what these are answered then fits its fields, too.
+/// A legal history can be read back from its text if its orders can, and its head, if it has one: what orders are
+/// answered then fits its fields, too.
 pub fn a_legal_history_can_be_read_back()
     ensures { (rules : Rules) (lines : List Line) → IsLegal rules lines
         → ((worker : ℕ) (order : Order) → Contains lines (line.Asked worker order)
-        → LineFits (line.Asked worker order)) → Fits lines }
+        → LineFits (line.Asked worker order))
+        → ((state : StateLine) → Contains lines (line.State state) → LineFits (line.State state)) → Fits lines }
 {
     blocker_is_the_first_lock_in_conflict();
     last_change_counts();
+    parts_are_told_one_by_one();
 }
 
 /// So can the lines of a session, if what its messages say fits their fields.
@@ -40,6 +46,7 @@ pub fn the_lines_of_a_session_can_be_read_back()
 {
     blocker_is_the_first_lock_in_conflict();
     last_change_counts();
+    parts_are_told_one_by_one();
 }
 
 /// The text of lines was cut off, perhaps within a line. The whole lines that are read of what is left are the first of
@@ -54,13 +61,14 @@ pub fn what_is_read_of_a_cut_text_begins_its_lines()
     no_text_is_that_of_two_histories();
 }
 
-/// The text of a legal history was cut off. No line that is read of what is left is bad, or breaks the rules:
-/// `resumed_from` refuses it only for memory, or since it can't be read.
+/// The text of a legal history that began with nothing was cut off. No line that is read of what is left is bad, or
+/// breaks the rules: `resumed_from` refuses it only for memory, or since it can't be read.
 pub fn a_cut_text_of_a_legal_history_is_never_refused()
-    ensures { (rules : Rules) (text : List ℕ) (all : List Line) (fault : CommandFault) → Fits all → IsLegal rules all
-        → IsPrefix text (text_of all) → FileSays rules text fault
+    ensures { (rules : Rules) (text : List ℕ) (all : List Line) (fault : CommandFault) → Fits all
+        → IsLegalFromNothing rules all → IsPrefix text (text_of all) → FileSays rules text fault
         → (fault ≡ command.NoMemory) ⊎ (fault ≡ command.Read) }
 {
+    no_head_comes_later();
     a_line_is_short();
     a_text_breaks_at_one_line_at_most();
     no_text_is_that_of_two_histories();

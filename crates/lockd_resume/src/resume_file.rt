@@ -3,9 +3,8 @@
 ghost use Rattle.std.specs.Prelude.{◌≡◌, ◌⊎◌, ◌&&◌, ◌++◌, ℕ, [], List, Option, Some, IfOk, IfErr};
 ghost use Rattle.std.specs.Path.{path_bytes};
 ghost use Rattle.fl_desk.specs.Kept.{IsKept};
-ghost use Rattle.fl_desk.specs.Verdicts.{IsBeginning};
 ghost use Rattle.fl_judge.specs.First.{AreWholeLines, IsSoOfAll};
-ghost use Rattle.fl_judge.specs.Present.{told_lines};
+ghost use Rattle.fl_judge.specs.Present.{told_lines, HasPresent};
 ghost use Rattle.fl_transport.specs.declared.fault.Fault.{Fault as SessionFault};
 ghost use Rattle.lockd_resume.specs.Behind.{EndsBehind, FileSays, ServesBehind, ServesNobodyBehind};
 ghost use Rattle.lockd_resume.specs.Ending.{Ending, Ends};
@@ -17,8 +16,8 @@ use crate::observer::ResumeObserver;
 use crate::point::ResumePoint;
 use crate::resuming::resume_stream;
 use fl_core::Rules;
-use fl_desk::Verdict;
-use fl_judge::{AuditFault, Details, Heard, Judge, Resumed, hear_cut};
+use fl_judge::laws::a_legal_history_has_a_present;
+use fl_judge::{AuditFault, Details, Heard, Judge, Resumed, Verdict, hear_cut};
 use fl_order::NoMemory;
 use fl_session::SessionRoom;
 use fl_stream::StreamRoom;
@@ -41,7 +40,7 @@ const ASK: &[u8] = b"ask ";
 /// `lockd serve --resume`: goes on behind the lines of a trace's file, under these rules, with one worker. It listens
 /// as `lockd serve` does, but a socket's file at the path is replaced if nobody listens at it. Nothing was read of the
 /// file, which gets what is written behind what it has, and `name` is its path. If another server has it, it isn't
-/// there any more, is no regular file, or can't be locked or cut off, the fault is `Trace`.
+/// there any more, is no regular file, begins with a head, or can't be locked or cut off, the fault is `Trace`.
 ///
 /// What follows the file's last newline is cut off, and the replies that its last order lacks are written to it. Then
 /// the lines of each order are written before any of its replies leaves. While a write fails, `when` says what happens,
@@ -80,6 +79,7 @@ pub fn resume_on<R: Net + Files + Clock, F: Write, N: Write + Drop, O: ResumeObs
     let mut details = Details::new();
     let point = match resumed_from(alloc, rules, &mut file, &mut details) {
         Ok(point) => point,
+        Err(CommandFault::Trace) => return end_unopened(faults, observer, Untraced::Headed),
         Err(fault) => return end_unresumed(alloc, faults, observer, fault, &details),
     };
     let rest = details.bad.text();
@@ -207,10 +207,14 @@ pub fn resumed_from<S: Read>(
         bytes,
         recent,
     } = heard;
+    let headed = judge.place().headed;
     let resumed = match gone_on(judge) {
         Ok(resumed) => resumed,
         Err(fault) => return Err(fault),
     };
+    if headed {
+        return Err(CommandFault::Trace);
+    }
     Ok(ResumePoint {
         resumed,
         recent,
@@ -235,7 +239,7 @@ fn gone_on(judge: Judge) -> Result<Resumed, CommandFault>
     ensures rules { IfOk result (λ r. r.present.rules ≡ judge.rules) }
     ensures error { IfErr result (λ fault. DiffersBy judge.rules judge.lines fault) }
 {
-    if !judge.begins() {
+    if judge.present().is_none() {
         return Err(difference(&judge));
     }
     match judge.into_resumed() {
@@ -246,9 +250,10 @@ fn gone_on(judge: Judge) -> Result<Resumed, CommandFault>
 
 // Where the lines differ that begin no legal history.
 fn difference(judge: &Judge) -> CommandFault
-    requires none { IsBeginning judge.now.rules judge.now.lines → ⊥ }
+    requires none { HasPresent judge.now.rules judge.now.lines → ⊥ }
     ensures { DiffersBy judge.now.rules judge.now.lines result }
 {
+    a_legal_history_has_a_present();
     match judge.verdict() {
         Verdict::Legal => unreachable!(),
         Verdict::Differs(n) => CommandFault::Differs(n),

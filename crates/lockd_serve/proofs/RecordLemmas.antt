@@ -4,7 +4,7 @@ use Rattle.std.proofs.Common.{true≢false, ⊎_elim}
 use Rattle.std.proofs.KnownBytes.{Appends-nil, Appends-kept}
 use Rattle.std.specs.Io.KnownBytes.{Keeps}
 use Rattle.std.specs.Prelude.{◌⊎◌, IfSome, IsSome}
-use Rattle.fl_desk.specs.Legal.{IsLegal, nothing}
+use Rattle.fl_desk.specs.Legal.{IsLegal, IsLegalFromNothing, nothing}
 use Rattle.fl_history.specs.declared.history.Line.{Line}
 use Rattle.fl_serve.specs.Serve.{IsRecordedBy}
 use Rattle.fl_session.specs.Recorded.{done_of, journal_lines}
@@ -23,6 +23,12 @@ legal_lines : {K : Type 0} (rules : Rules) (lines : K → List Line) (journal : 
     → IfSome journal (λ k. IsLegal rules (lines k)) → IsLegal rules (journal_lines lines journal)
 legal_lines rules lines None legal = nothing
 legal_lines rules lines (Some journal) legal = legal
+
+-- if they began with nothing, so did these
+begun_lines : {K : Type 0} (rules : Rules) (lines : K → List Line) (journal : Option K)
+    → IfSome journal (λ k. IsLegalFromNothing rules (lines k)) → IsLegalFromNothing rules (journal_lines lines journal)
+begun_lines rules lines None legal = (nothing, refl)
+begun_lines rules lines (Some journal) legal = legal
 
 -- if nothing was written, no line had to be stored
 ahead_of_nothing : (rules : Rules) (streams : Streams) (broken : Bool) (done : Done) → Keeps streams.held streams.held_now
@@ -67,6 +73,7 @@ alone lines stored workers rules streams broken it one legal served ahead back u
         served ahead,
   );
   several = λ more. absurd (omega (arith, one, more));
+  from_nothing = λ more. absurd (omega (arith, one, more));
 }
 
 -- what several workers recorded was served
@@ -75,9 +82,10 @@ pub several : {K : Type 0} (lines stored : K → List Line) (workers : ℕ) (rul
     → 1 < workers → IsRecordedBy lines stored workers rules streams it
     → HasServed workers rules streams (journal_lines stored it.journal) (done_of lines it)
 several lines stored workers rules streams it more is = record {
-  legal = legal_lines rules lines it.journal is.legal;
+  legal = (begun_lines rules lines it.journal is.legal).0;
   alone = λ one. absurd (omega (arith, one, more));
   several = λ _. is.served;
+  from_nothing = λ _. begun_lines rules lines it.journal is.legal;
 }
 
 -- several workers never end since lines couldn't be stored

@@ -1,6 +1,6 @@
 -- What a server did with a client, with one worker or with several.
 use Rattle.std.specs.Prelude.{◌≡◌, ℕ, ◌<◌, Bool, List}
-use Rattle.fl_desk.specs.Legal.{IsLegal}
+use Rattle.fl_desk.specs.Legal.{IsLegal, IsLegalFromNothing}
 use Rattle.fl_history.specs.declared.history.Line.{Line}
 use Rattle.fl_serve.specs.Serve.{IsServedBy}
 use Rattle.fl_session.specs.Served.{IsServedAhead}
@@ -14,9 +14,10 @@ abbrev pub HasServedAlone : Rules → Streams → List Line → Done → Type 0
 HasServedAlone rules streams stored done = (broken : Bool) × IsServedAhead rules streams broken done stored
 
 -- So many workers served what was read, by orders that wait under these rules. The history is legal, one worker did
--- what `IsServedAhead` says, and several did what `IsServedBy` says, of the lines that are stored.
+-- what `IsServedAhead` says, and several did what `IsServedBy` says, of the lines that are stored, and began with nothing.
 pub record HasServed (workers : ℕ) (rules : Rules) (streams : Streams) (stored : List Line) (done : Done)
     : Type 0 where
   pub legal : IsLegal rules done.history
   pub alone : workers ≡ 1 → HasServedAlone rules streams stored done
   pub several : 1 < workers → IsServedBy workers rules streams stored done
+  pub from_nothing : 1 < workers → IsLegalFromNothing rules done.history

@@ -45,6 +45,8 @@ pub enum Parting {
 /// Why a server has no file for its trace.
 #[derive(Drop)]
 pub enum Untraced {
+    /// It begins with a head: of messages that are sent again, what stands before it isn't known.
+    Headed,
     /// It can't be opened or made, for this reason.
     Unopened(io::Error),
     /// Another program has it locked.

@@ -1,8 +1,8 @@
 //! Sessions of one worker over memory: those in which a reader waits behind a writer that waits, by both rules.
 
 use super::{are_bytes, fault_is};
+use fl_book::{Verdict, check};
 use fl_core::Rules;
-use fl_desk::{Verdict, check};
 use fl_history::History;
 use fl_serve::{Done, OpenGate, run_one, serve};
 use fl_stream::print_trace;

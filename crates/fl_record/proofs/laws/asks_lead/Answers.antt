@@ -4,7 +4,7 @@ use Rattle.fl_desk.specs.Leading.{LeadsTo}
 use Rattle.fl_desk.specs.Legal.{IsLegal}
 use Rattle.fl_desk.specs.Replay.{state_after}
 use Rattle.fl_record.specs.Asks.{history_of, present_after}
-use Rattle.fl_record.proofs.Histories.{asks_from, same_rules}
+use Rattle.fl_record.proofs.Histories.{asks_from, no_head, same_rules}
 use Rattle.fl_record.proofs.laws.asks_lead.Goals as goal
 
 pub returns-clause-rules : goal.returns-clause-rules
@@ -23,3 +23,8 @@ returns-clause-stands c rules asks =
     let leads : LeadsTo (history_of rules asks) (present_after rules asks) =
     asks_from law.step [] (snapshot_of (opening rules)) asks (law.nothing rules) in
     leads.stands ∙ ap (λ r. snapshot_of (state_after r (history_of rules asks))) (same_rules (snapshot_of (opening rules)) asks)
+
+pub returns-clause-headless : goal.returns-clause-headless
+returns-clause-headless c rules asks =
+    let law = c.no_head_comes_later.ensures in
+    no_head law.step law.both (snapshot_of (opening rules)) asks

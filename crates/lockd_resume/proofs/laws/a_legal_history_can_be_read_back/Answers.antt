@@ -3,3 +3,4 @@ use Rattle.lockd_resume.proofs.laws.a_legal_history_can_be_read_back.Goals as go
 
 pub returns : goal.returns
 returns c = orders_fit c.last_change_counts.ensures c.blocker_is_the_first_lock_in_conflict.ensures.named
+    c.parts_are_told_one_by_one.ensures.each

@@ -3,3 +3,4 @@ use Rattle.lockd_resume.proofs.laws.the_lines_of_a_session_can_be_read_back.Goal
 
 pub returns : goal.returns
 returns c = session_fits c.last_change_counts.ensures c.blocker_is_the_first_lock_in_conflict.ensures.named
+    c.parts_are_told_one_by_one.ensures.each
