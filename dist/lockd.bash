@@ -16,7 +16,7 @@ _lockd() {
     _lockd_words
     local words= rules='--fair --runs --parked --files --open --verbose'
     if [ "$COMP_CWORD" -eq 1 ]; then
-        words="script check locks bytes serve drive help $rules --help --version"
+        words="script check locks state bytes serve drive help $rules --help --version"
     elif [ "$before" = --workers ]; then
         words=$(seq 16)
     elif [ "$before" = --runs ]; then
@@ -40,11 +40,11 @@ _lockd() {
         return
     else
         case $command in
-            help) words='script check locks bytes serve drive' ;;
+            help) words='script check locks state bytes serve drive' ;;
             serve) words="--workers --trace --resume --trace-full $rules --help" ;;
             check) words="--quiet --cut $rules --help" ;;
             locks) words="--at --file --json $rules --help" ;;
-            script | bytes) words="$rules --help" ;;
+            script | bytes | state) words="$rules --help" ;;
             drive) words='--verbose --help' ;;
             # Without a command it is script.
             -*) words=$rules ;;

@@ -136,6 +136,16 @@ def try_each_allocation_of_a_list():
     return told(sayings)
 
 
+def try_each_allocation_of_a_head():
+    sayings = []
+    for rules in [], ["--fair"]:
+        trace = printed("script", *rules, text=HELD_AND_WAITED_FOR)
+        head, said = refuse_each(" ".join(["state", *rules]), "state", *rules, text=trace)
+        assert head.endswith("\ngo\n") and head.count("\nwait ") == 2, head
+        sayings.append(said)
+    return told(sayings)
+
+
 def refuse_session(what, lines, *refusable):
     return refuse_each(f"bytes, {what}", "bytes", text="".join(lines), refusable=refusable)[1]
 

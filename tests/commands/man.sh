@@ -64,7 +64,7 @@ completes() {
     [ "$found" = "$wanted" ] || { echo "$* is completed by: $found" && failed=1; }
 }
 if command -v bash > /dev/null; then
-    completes 'script serve' lockd s
+    completes 'script state serve' lockd s
     completes "$(seq 16 | tr '\n' ' ' | sed 's/ $//')" lockd serve --workers =
     completes '2' lockd serve --workers = 2
     completes '2' lockd serve --workers 2

@@ -87,7 +87,7 @@ fn finished<W: Write>(stream: Streamed<W>, count: usize) -> (Course, W) {
     (course, stream.into_writer())
 }
 
-// Hands a line to a journal, and says whether it took it.
+// Hands a line to a journal, and says whether it took it. A journal takes no line of a head.
 fn hand<J: Journal>(journal: &mut J, line: &Line) -> bool {
     if journal.reserve(1).is_err() {
         return false;
@@ -95,7 +95,7 @@ fn hand<J: Journal>(journal: &mut J, line: &Line) -> bool {
     match line {
         Line::Asked { worker, order } => journal.push_asked(*worker, order),
         Line::Told(told) => journal.push_told(told),
-        Line::State(_) => unreachable!(),
+        Line::State(_) => return false,
     }
     true
 }

@@ -20,7 +20,7 @@ ghost use Rattle.lockd_cli.specs.Numbers.{HasWorkers};
 
 use lockd_cli::{Asked, CommandLine, UsageError, print_version, read_words};
 use lockd_commands::{CommandFault, Status};
-use lockd_stdio::{Host, bytes, check, drive, locks, script};
+use lockd_stdio::{Host, bytes, check, drive, locks, script, state};
 use serving::{resume, serve};
 use std::fs::Files;
 use std::io::Write;
@@ -62,6 +62,7 @@ fn run<T: Threads + Wait + Net + Files + Sync>(
     match &line.asked {
         Asked::Script(rules) => script(host, *rules),
         Asked::Bytes(rules) => bytes(host, *rules),
+        Asked::State(rules) => state(host, *rules),
         Asked::Check { quiet, cut, rules } => check(host, *rules, *quiet, *cut),
         Asked::Locks {
             at,

@@ -109,6 +109,7 @@ socket_said found = unwrap_or (first_value found (codes "SOCKET")) []
 abbrev pub Ask : Found → Asked → Type 0
 Ask found (asked.Script rules) = SayRules found rules
 Ask found (asked.Bytes rules) = SayRules found rules
+Ask found (asked.State rules) = SayRules found rules
 Ask found (asked.Check quiet cut rules) =
     IsFlagOf (one_text found (codes "quiet")) quiet × IsFlagOf (one_text found (codes "cut")) cut × SayRules found rules
 Ask found (asked.Locks at file json rules) =
@@ -129,6 +130,7 @@ Ask found asked.Version = ⊥
 abbrev pub word_of : Asked → Text
 word_of (asked.Script rules) = codes "script"
 word_of (asked.Bytes rules) = codes "bytes"
+word_of (asked.State rules) = codes "state"
 word_of (asked.Check quiet cut rules) = codes "check"
 word_of (asked.Locks at file json rules) = codes "locks"
 word_of (asked.Serve socket workers trace rules) = codes "serve"
@@ -144,7 +146,8 @@ IsSaid matches name found = subcommand_rows_of matches ≡ Some (name, rows_of f
 abbrev pub SaysNone : Option Text → Type 0
 SaysNone said =
     (said ≢ Some (codes "script")) × (said ≢ Some (codes "bytes")) × (said ≢ Some (codes "check"))
-    × (said ≢ Some (codes "locks")) × (said ≢ Some (codes "serve")) × (said ≢ Some (codes "drive"))
+    × (said ≢ Some (codes "locks")) × (said ≢ Some (codes "state")) × (said ≢ Some (codes "serve"))
+    × (said ≢ Some (codes "drive"))
 
 -- The words that `clap` took ask for this: by its command and the options of that, or for `script` by options alone, if
 -- no command was said.

@@ -66,6 +66,12 @@ const COMMANDS: &[Usage] = &[
         common: RULES,
     },
     Usage {
+        name: "state",
+        about: "Prints the head of a trace that goes on from what is there after the whole trace on standard input",
+        own: &[],
+        common: RULES,
+    },
+    Usage {
         name: "serve",
         about: "Serves the first connection to a Unix stream socket, and prints the trace of the session",
         own: SERVE,
@@ -88,7 +94,7 @@ const CHECK: &[Argument] = &[
     },
     Argument {
         name: "cut",
-        help: "Takes the trace of a killed server: drops what follows the last newline, and prints begins, with status 0, where only replies are missing at the end; --quiet prints nothing after begins",
+        help: "Takes the trace of a killed server: drops what follows the last newline, and prints begins, with status 0, where only replies or the rest of a head are missing at the end; --quiet prints nothing after begins",
         kind: Kind::Flag(None),
         conflicts_with: &[],
     },

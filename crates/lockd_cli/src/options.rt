@@ -60,6 +60,8 @@ pub enum Asked {
         /// The rules by which the trace was made.
         rules: Rules,
     },
+    /// Tells what is there after a trace, as the head of one that goes on from there.
+    State(Rules),
     /// Serves a socket.
     Serve {
         /// The path of the socket.
@@ -169,6 +171,7 @@ fn asked_by(alloc: Global, matches: &ArgMatches<'_>) -> Result<Asked, UsageError
             rules: rules_of(options),
         }),
         Some(("locks", options)) => locks_of(alloc, options),
+        Some(("state", options)) => Ok(Asked::State(rules_of(options))),
         Some(("serve", options)) => serve_of(alloc, options),
         Some(("drive", options)) => Ok(Asked::Drive(socket_of(alloc, options)?)),
         _ => Ok(Asked::Script(rules_of(matches))),

@@ -6,7 +6,7 @@ use Rattle.fl_judge.specs.declared.finding.Audited.{Audited}
 use Rattle.fl_judge.specs.declared.finding.Finding.{Finding}
 use Rattle.fl_judge.specs.declared.finding.Finding.TheVariants.{Legal, Begins, Differs}
 use Rattle.fl_desk.specs.Legal.{IsLegal}
-use Rattle.fl_desk.specs.Verdicts.{IsBeginning}
+use Rattle.fl_judge.specs.Verdicts.{IsBeginning}
 use Rattle.fl_history.specs.declared.history.Line.{Line}
 use Rattle.fl_judge.specs.Quiet.{IsQuiet}
 use Rattle.fl_waiting.specs.declared.rules.Rules.{Rules}

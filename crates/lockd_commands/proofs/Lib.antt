@@ -3,3 +3,4 @@ pub mod HexLemmas
 pub mod LocksLemmas
 pub mod ReplyLemmas
 pub mod ScriptLemmas
+pub mod StateLemmas

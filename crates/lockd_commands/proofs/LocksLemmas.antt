@@ -2,10 +2,10 @@
 use Rattle.std.proofs.Common.{◌≡◌, ℕ, Option, List, [], ◌∷◌, ◌++◌, codes, subst, sym}
 use Rattle.std.specs.Fmt.{decimal}
 use Rattle.fl_core.specs.State.{Snapshot}
-use Rattle.fl_desk.specs.Verdicts.{DiffersAt, IsBeginning}
+use Rattle.fl_judge.specs.Verdicts.{DiffersAt}
 use Rattle.fl_history.specs.declared.history.Line.{Line}
 use Rattle.fl_judge.specs.First.{AreFirstLines, IsSoOfAll}
-use Rattle.fl_judge.specs.Present.{IsPresent}
+use Rattle.fl_judge.specs.Present.{HasPresent, IsPresent}
 use Rattle.fl_locks.specs.LockRows.{rows_of}
 use Rattle.fl_waiting.specs.declared.rules.Rules.{Rules}
 use Rattle.lockd_commands.specs.Locks.{of_file, rows_text, AreListed, AreDifferent}
@@ -27,12 +27,12 @@ listed rules own options left lines present text same read after spelled = recor
 -- which line of them is the first that breaks the rules
 pub different : (rules own : Rules) (options : LocksOptions) (left : Option (List ℕ)) (lines : List Line) (line : ℕ)
     (text : List ℕ) → own ≡ rules → IsSoOfAll left (λ bytes. AreFirstLines options.at bytes lines)
-    → (IsBeginning own lines → ⊥) → DiffersAt own lines line → text ≡ codes "differs " ++ (decimal line ++ 10 ∷ [])
+    → (HasPresent own lines → ⊥) → DiffersAt own lines line → text ≡ codes "differs " ++ (decimal line ++ 10 ∷ [])
     → AreDifferent rules options left text
 different rules own options left lines line text same read none differs said = record {
   lines = lines;
   read = read;
-  none = subst (λ r. IsBeginning r lines → ⊥) same none;
+  none = subst (λ r. HasPresent r lines → ⊥) same none;
   line = line;
   differs = subst (λ r. DiffersAt r lines line) same differs;
   said = said;

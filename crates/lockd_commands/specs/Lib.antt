@@ -4,3 +4,4 @@ pub mod Faults
 pub mod Hex
 pub mod Locks
 pub mod Script
+pub mod State

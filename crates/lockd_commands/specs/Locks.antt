@@ -7,10 +7,10 @@ use Rattle.std.specs.List.{filter}
 use Rattle.std.specs.Fmt.{decimal}
 use Rattle.std.specs.Io.KnownBytes.{Appends}
 use Rattle.fl_core.specs.State.{Snapshot}
-use Rattle.fl_desk.specs.Verdicts.{DiffersAt, IsBeginning}
+use Rattle.fl_judge.specs.Verdicts.{DiffersAt}
 use Rattle.fl_history.specs.declared.history.Line.{Line}
 use Rattle.fl_judge.specs.First.{AreFirstLines, IsSoOfAll}
-use Rattle.fl_judge.specs.Present.{IsPresent}
+use Rattle.fl_judge.specs.Present.{HasPresent, IsPresent}
 use Rattle.fl_locks.specs.Json.{json_text}
 use Rattle.fl_locks.specs.LockRows.{linked_name, rows_of}
 use Rattle.fl_locks.specs.Table.{table_text}
@@ -43,12 +43,12 @@ pub record AreListed (rules : Rules) (options : LocksOptions) (left : Option (Li
   pub after : IsPresent rules lines present
   pub listed : text ≡ rows_text options.json (of_file options.file (rows_of present))
 
--- they begin none: this line is the first that breaks the rules, and this text says so
+-- they begin none, or end inside a head: this line is the first that breaks the rules, and this text says so
 pub record AreDifferent (rules : Rules) (options : LocksOptions) (left : Option (List ℕ)) (text : List ℕ) : Type 0
   where
     pub lines : List Line
     pub read : IsSoOfAll left (λ bytes. AreFirstLines options.at bytes lines)
-    pub none : IsBeginning rules lines → ⊥
+    pub none : HasPresent rules lines → ⊥
     pub line : ℕ
     pub differs : DiffersAt rules lines line
     pub said : text ≡ codes "differs " ++ (decimal line ++ 10 ∷ [])

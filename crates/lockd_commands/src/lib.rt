@@ -1,12 +1,12 @@
-//! The commands of `lockd` but `serve` and `drive`, as functions: `script`, `check`, `locks` and `bytes` over a reader
-//! and two writers; and what `--verbose` says of what they and `drive` read.
+//! The commands of `lockd` but `serve` and `drive`, as functions: `script`, `check`, `locks`, `state` and `bytes` over a
+//! reader and two writers; and what `--verbose` says of what they and `drive` read.
 //!
 //! Contracts see no failure of a reader or a writer. They let through:
 //! - a command that prints its fault in part, or not at all;
 //! - one that tells `no memory`, or a read or a write that failed, though none did;
 //! - one that ends well though its output couldn't be flushed;
 //! - a `locks_on` that tells `differs N` in part, or not at all;
-//! - a `check_on` or a `locks_on` that gives other details of its lines, or none (`tests/commands/words.py`);
+//! - a `check_on`, a `locks_on` or a `state_on` that gives other details of its lines, or none (`tests/commands/words.py`);
 //! - a `Kept` that keeps another text, and an `explain_trace`, `explain_script`, `explain_hex` or `explain_streams`
 //!   that says anything else (`tests/commands/words.py`, `tests/commands/texts.py`).
 //!
@@ -22,6 +22,7 @@ mod check;
 mod kept;
 mod locks;
 mod script;
+mod state;
 mod verbose;
 
 pub use bytes::bytes_on;
@@ -32,4 +33,5 @@ pub use kept::Kept;
 pub use lockd_faults::{CommandFault, Noting, Status};
 pub use locks::{LocksOptions, locks_on};
 pub use script::script_on;
+pub use state::state_on;
 pub use verbose::{explain_hex, explain_script, explain_streams, explain_trace};

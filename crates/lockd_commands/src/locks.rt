@@ -3,7 +3,8 @@
 ghost use Rattle.std.specs.Prelude.{◌≡◌, ◌≢◌, ◌++◌, ◌∷◌, [], ℕ, codes, option_copied, string_bytes, IfOk, IfErr};
 ghost use Rattle.std.specs.Fmt.{decimal};
 ghost use Rattle.std.specs.List.{filter};
-ghost use Rattle.fl_desk.specs.Verdicts.{DiffersAt, IsBeginning};
+ghost use Rattle.fl_judge.specs.Present.{HasPresent};
+ghost use Rattle.fl_judge.specs.Verdicts.{DiffersAt};
 ghost use Rattle.std.specs.Io.KnownBytes.{Keeps};
 ghost use Rattle.fl_judge.specs.First.{IsSoOfAll, IsWithin};
 ghost use Rattle.fl_judge.specs.Audit.{whole_lines};
@@ -16,9 +17,10 @@ ghost use Rattle.lockd_faults.specs.Faults.{IsTold};
 ghost use Rattle.lockd_faults.specs.declared.fault.CommandFault.{CommandFault};
 
 use crate::check::fault_of;
+use crate::state::differs;
 use fl_core::{Core, Rules};
-use fl_desk::Verdict;
-use fl_judge::{Details, Judge, hear_first};
+use fl_judge::laws::a_legal_history_has_a_present;
+use fl_judge::{Details, Judge, Verdict, hear_first};
 use fl_locks::{LockRow, lock_json, lock_rows, lock_table};
 use fl_order::{Name, NoMemory};
 use lockd_faults::{CommandFault, Status, end, write_all};
@@ -47,7 +49,8 @@ enum Answer {
 
 /// `lockd locks`: reads a trace, and writes which locks are held and which requests wait once the replies are told too
 /// that it lacks at its end. The text after the last newline is dropped, so the trace may be cut off, or still be
-/// written. A trace that isn't legal under these rules gets a line `differs N` on `faults`, and nothing on the output.
+/// written, but not within a head. A trace that isn't legal under these rules gets a line `differs N` on `faults`, and
+/// nothing on the output.
 /// All input is read before any output, in memory that doesn't grow with it. A fault is one line on `faults`. What is
 /// told of the lines goes to `details`.
 pub fn locks_on<R: Read, W: Write, F: Write>(
@@ -163,17 +166,16 @@ fn is_called(name: &[u8], own: Option<&Name>) -> bool
     }
 }
 
-// The line that says where the lines begin no legal history.
+// The line that says where the lines lead to nothing.
 fn difference(alloc: Global, judge: &Judge) -> Result<String, CommandFault>
-    requires none { IsBeginning judge.now.rules judge.now.lines → ⊥ }
+    requires none { HasPresent judge.now.rules judge.now.lines → ⊥ }
     ensures said { IfOk result (λ text. (line : ℕ) × DiffersAt judge.now.rules judge.now.lines line
         × (string_bytes text ≡ codes "differs " ++ (decimal line ++ 10 ∷ []))) }
     ensures error { IfErr result (λ fault. fault ≡ CommandFault.NoMemory) }
 {
-    let mut text = String::new(alloc);
+    a_legal_history_has_a_present();
     match judge.verdict() {
         Verdict::Legal => unreachable!(),
-        Verdict::Differs(n) => writeln!(text, "differs {n}")?,
+        Verdict::Differs(n) => Ok(differs(alloc, n)?),
     }
-    Ok(text)
 }

@@ -110,9 +110,18 @@ fn print_difference<W: Write>(to: &mut W, alloc: Global, name: &str, difference:
             let _ = writeln!(to, "line {n} of {name} is missing");
         }
     }
-    match difference.due {
-        Some(due) => print_line(to, alloc, format_args!("the rules want"), &Line::Told(due)),
-        None => {
+    match (difference.due, difference.found) {
+        (Some(due), _) => print_line(to, alloc, format_args!("the rules want"), &Line::Told(due)),
+        (None, None) => {
+            let _ = writeln!(to, "the rules want the rest of the head: a part, or go");
+        }
+        (None, Some(Line::State(_))) => {
+            let _ = writeln!(
+                to,
+                "the rules want a head at the beginning alone, under these rules, each part of which fits those before it"
+            );
+        }
+        (None, Some(_)) => {
             let _ = writeln!(to, "the rules want an order there: no reply is due");
         }
     }

@@ -17,5 +17,5 @@ mod words;
 
 pub use descriptors::hold_closed_streams;
 pub use host::Host;
-pub use reading::{bytes, check, drive, locks, script};
+pub use reading::{bytes, check, drive, locks, script, state};
 pub use words::ServerWords;

@@ -6,6 +6,7 @@ use crate::words::explain_unconnected;
 use lockd_commands::{
     CheckOptions, CommandFault, Details, Kept, LocksOptions, Noting, Rules, Status, bytes_on,
     check_on, explain_hex, explain_script, explain_streams, explain_trace, locks_on, script_on,
+    state_on,
 };
 use lockd_drive::drive_on;
 use std::io;
@@ -82,6 +83,26 @@ pub fn locks(
         alloc,
         rules,
         options,
+        &mut input,
+        &mut output,
+        &mut faults,
+        &mut details,
+    );
+    explain_failed(host, &mut faults, status, input.failed(), output.failed());
+    explain_details(host, &mut faults, status, &details);
+    status
+}
+
+/// `lockd state`.
+pub fn state(host: Host<'_>, rules: Rules) -> Status {
+    let (rt, alloc) = (host.rt, host.rt.alloc());
+    let mut input = Noting::new(rt.reader());
+    let mut output = Noting::new(io::writer(rt));
+    let mut faults = rt.stderr();
+    let mut details = Details::new();
+    let status = state_on(
+        alloc,
+        rules,
         &mut input,
         &mut output,
         &mut faults,

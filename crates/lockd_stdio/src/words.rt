@@ -125,6 +125,9 @@ impl<R: Files, W: Write> Observer for ServerWords<'_, R, W> {
             Untraced::Gone => self.say(format_args!(
                 "{file}: another file is there by now, or none: try again"
             )),
+            Untraced::Headed => self.say(format_args!(
+                "{file} begins with a head: a server goes on behind a whole trace alone, since a message that is sent again would be taken twice"
+            )),
             Untraced::Irregular => self.say(format_args!(
                 "{file}: it is no regular file: name another"
             )),

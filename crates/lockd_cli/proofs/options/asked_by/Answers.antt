@@ -33,6 +33,12 @@ returns-in-Some-locks-default-clause-said c =
     let said = is_said c.args.matches.now (codes "locks") found (search rules) (search rules) in
     asked_so c.args.matches.now (codes "locks") found c.locks_of.result said c.locks_of.ensures.locks c.locks_of.ensures.said
 
+pub returns-in-Some-state-default-clause-said : goal.returns-in-Some-state-default-clause-said
+returns-in-Some-state-default-clause-said c =
+    let found = found_of c.in-Some-state-default.options.now in
+    let said = is_said c.args.matches.now (codes "state") found (search rules) (search rules) in
+    inl (found, said, c.rules_of-in-Some-state-default.ensures)
+
 pub returns-in-Some-serve-default-clause-said : goal.returns-in-Some-serve-default-clause-said
 returns-in-Some-serve-default-clause-said c =
     let found = found_of c.in-Some-serve-default.options.now in

@@ -1,0 +1,172 @@
+"""Tries heads: what `lockd state` prints behind a trace, and what `check`, `locks` and `serve --resume` make of traces that begin with a head.
+
+Random traces are cut behind an order's replies, and go on behind the head of their first part as they do behind that part. `tries.py` says
+how it ends.
+"""
+import os
+import random
+import subprocess
+import sys
+import tempfile
+
+from tests import tries
+from tests.commands.changes import random_script
+from tests.tries import PROGRAM, run
+
+RULES = b"0 4096 256 256 1024"
+
+
+def said(*words, text):
+    """What a command prints, if it ends well and tells nothing."""
+    ran = run(*words, text=text)
+    assert (ran.stderr, ran.returncode) == (b"", 0), (words, text, ran)
+    return ran.stdout
+
+
+def traces(count):
+    return [said("script", text=random_script(seed).encode()) for seed in range(count)]
+
+
+def cuts(trace):
+    """Where orders begin, and the end."""
+    lines = trace.splitlines(True)
+    return [*(at for at, line in enumerate(lines) if line.startswith(b"ask ")), len(lines)], lines
+
+
+def parts_of(head):
+    """Its first line, its other lines in whichever order they stand, and those that wait in theirs."""
+    first, *parts, last = head.splitlines()
+    assert last == b"go", head
+    return first, sorted(it for it in parts if not it.startswith(b"wait ")), [it for it in parts if it.startswith(b"wait ")]
+
+
+def differs(words, text, number):
+    ran = run(*words, text=text)
+    stream = ran.stdout if words[0] == "check" else ran.stderr
+    assert (stream, ran.returncode) == (b"differs %d\n" % number, 1), (words, text, ran)
+
+
+# ---- behind a trace
+
+def try_random_traces_go_on_behind_a_head():
+    """The second part of a trace is legal behind the head of the first, leads to the same, and has the same locks."""
+    numbers, waited, tried = random.Random(3), 0, 0
+    for trace in traces(60):
+        places, lines = cuts(trace)
+        for at in numbers.sample(places, 4):
+            head = said("state", text=b"".join(lines[:at]))
+            assert said("check", text=head) == b"legal\n", head
+            waited += b"\nwait " in head
+            piece = head + b"".join(lines[at:])
+            assert said("check", text=piece) == b"legal\n", piece
+            assert parts_of(said("state", text=piece)) == parts_of(said("state", text=trace)), (trace, at)
+            assert said("locks", text=piece) == said("locks", text=trace), (trace, at)
+            tried += 1
+    assert waited > 80, waited
+    return f"{tried} pieces, {waited} of which begin with requests that wait"
+
+
+def try_a_change_behind_a_head_is_found():
+    """A reply that differs is found in its piece, by its line there."""
+    numbers = random.Random(4)
+    for trace in traces(30):
+        places, lines = cuts(trace)
+        at = numbers.choice(places[:-20])
+        head = said("state", text=b"".join(lines[:at]))
+        replies = [place for place in range(at, len(lines)) if lines[place].startswith(b"tell ")]
+        place = numbers.choice(replies)
+        words = lines[place].split()
+        changed = [*lines[at:place], b"tell %s err 99\n" % words[1], *lines[place + 1:]]
+        ran = run("check", text=head + b"".join(changed))
+        assert ran.returncode in (1, 2), ran
+        # 99 is no error of a reply, so the line is bad; EPROTO is one, and no order gets it.
+        changed = [*lines[at:place], b"tell %s err 71\n" % words[1], *lines[place + 1:]]
+        differs(["check"], head + b"".join(changed), len(head.splitlines()) + place - at + 1)
+
+
+def try_the_head_of_an_example():
+    """Of a file with a lock, for which another owner waits."""
+    orders = [b"ask 0 1 1 0 0 0 create 0 420 61\n", b"ask 0 2 2 0 0 0 setlk 1 7 0 9 1 11 0\n", b"ask 0 3 2 0 0 0 setlkw 1 8 5 5 1 12 0\n"]
+    trace = said("script", text=b"".join(orders))
+    assert said("state", text=trace) == (
+        b"state 5 " + RULES + b" 3 2\nnode 2 1 1 33188 0 0 61\nfile 1 2\nlock 2 7 0 9 1 11 0\nwait 3 2 1 8 5 5 1 12 0\ngo\n"), trace
+    assert said("state", text=b"") == b"state 0 " + RULES + b" 2 1\ngo\n"
+
+
+def try_a_file_without_a_name_keeps_its_place():
+    """A file that was unlinked while it was open is told, and its name is free."""
+    orders = [b"ask 0 1 1 0 0 0 create 0 420 61\n", b"ask 0 2 1 0 0 0 unlink 61\n", b"ask 0 3 1 0 0 0 create 1 384 61\n"]
+    head = said("state", text=said("script", text=b"".join(orders)))
+    assert parts_of(head)[1] == [b"file 1 2", b"file 2 3", b"node 2 1 0 33188 0 0 61", b"node 3 1 1 33152 0 0 61"], head
+
+
+def try_traces_that_have_no_head_behind_them():
+    """One that isn't legal, lacks replies, has a bad line, or is cut off."""
+    trace = said("script", text=b"ask 0 1 1 0 0 0 create 0 420 61\n")
+    for text, number in ((b"tell 1 ok\n", 1), (trace.splitlines(True)[0], 2), (trace + trace, 4)):
+        differs(["state"], text, number)
+    for text, told in ((b"ask\n", b"bad line 1\n"), (trace + b"ask 0 2", b"bad line 3\n")):
+        ran = run("state", text=text)
+        assert (ran.stdout, ran.stderr, ran.returncode) == (b"", told, 2), (text, ran)
+
+
+# ---- bad heads
+
+def head(*parts, rules=RULES, node=9, fh=14, go=b"go\n"):
+    return b"state 0 %s %d %d\n" % (rules, node, fh) + b"".join(it + b"\n" for it in parts) + go
+
+
+NODE, FILE, LOCK = b"node 7 1 1 33188 1000 1000 6a6f62", b"file 12 7", b"lock 7 31 0 9 1 11 0"
+WAIT = b"wait 5000 7 12 32 5 5 1 12 0"
+
+
+def try_parts_that_do_not_fit():
+    """The number of the first line that doesn't."""
+    assert said("check", text=head(NODE, FILE, LOCK, WAIT)) == b"legal\n"
+    for number, parts, how in (
+            (1, [], {"rules": b"1 4096 256 256 1024"}), (1, [], {"rules": b"0 4096 256 256 1023"}), (1, [], {"node": 1}), (1, [], {"fh": 0}),
+            (2, [b"node 9 1 1 33188 0 0 61"], {}), (2, [b"node 1 1 1 33188 0 0 61"], {}), (2, [b"node 0 1 1 33188 0 0 61"], {}),
+            (3, [NODE, NODE], {}), (3, [NODE, b"node 8 1 1 33188 0 0 6a6f62"], {}),
+            (2, [FILE], {}), (3, [NODE, b"file 14 7"], {}), (3, [NODE, b"file 0 7"], {}), (4, [NODE, FILE, FILE], {}),
+            (3, [NODE, b"lock 7 31 9 0 1 11 0"], {}), (3, [NODE, b"lock 7 31 0 9223372036854775808 1 11 0"], {}),
+            (4, [NODE, LOCK, b"lock 7 32 9 9 0 12 0"], {}), (3, [NODE, WAIT], {}), (5, [NODE, LOCK, WAIT, WAIT], {}),
+            (5, [NODE, LOCK, WAIT, b"lock 7 31 20 29 1 11 0"], {}), (3, [NODE, b"state 0 " + RULES + b" 9 14"], {})):
+        differs(["check"], head(*parts, **how), number)
+    for text, number in ((head(NODE, go=b""), 3), (head(NODE) + head(NODE), 4), (head(NODE) + NODE + b"\n", 4), (NODE + b"\n", 1), (b"go\n", 1),
+                         (b"ask 0 1 1 0 0 0 lookup 61\ntell 1 err 2\n" + head(), 3), (head(NODE, go=b"") + b"ask 0 1 1 0 0 0 lookup 61\n", 3)):
+        differs(["check"], text, number)
+        differs(["state"], text, number)
+    assert said("check", "--cut", text=head(NODE, go=b"")) == b"begins\n"
+    differs(["locks"], head(NODE, go=b""), 3)
+
+
+def try_bad_lines_of_heads():
+    for line in (b"state 0 0 4096 256 256 1024 9", b"state 0 2 4096 256 256 1024 9 14", b"node 7 1 1 33188 0 0", b"node 7 1 2 33188 0 0 61", b"file 12", b"file 12 7 ",
+                 b"lock 7 31 0 9 2 11 0", b"lock 7 31 0 9 1 11 2", b"wait 5000 7 12 32 5 5 1 12", b"go ", b"go 1", b"node 07 1 1 33188 0 0 61",
+                 b"lock 18446744073709551616 31 0 9 1 11 0", b"state 0 0 4294967296 256 256 1024 9 14"):
+        ran = run("check", text=line + b"\n")
+        assert (ran.stdout, ran.stderr, ran.returncode) == (b"", b"bad line 1\n", 2), (line, ran)
+
+
+def try_rules_that_a_head_names():
+    """A head is judged by the rules that it names."""
+    fair = ["--fair", "--runs", "7", "--parked", "3", "--files", "5", "--open", "9"]
+    found = said("state", *fair, text=b"")
+    assert found == b"state 0 1 7 3 5 9 2 1\ngo\n", found
+    assert said("check", *fair, text=found) == b"legal\n"
+    differs(["check"], found, 1)
+
+
+def try_a_server_goes_on_behind_whole_traces_alone():
+    with tempfile.TemporaryDirectory() as folder:
+        path = os.path.join(folder, "trace")
+        with open(path, "wb") as file:
+            file.write(head(NODE, FILE))
+        ran = subprocess.run([PROGRAM, "serve", os.path.join(folder, "socket"), "--resume", path], capture_output=True, timeout=tries.PATIENCE)
+        assert (ran.stdout, ran.stderr, ran.returncode) == (b"", b"cannot trace\n", 2), ran
+        with open(path, "rb") as file:
+            assert file.read() == head(NODE, FILE)
+
+
+if __name__ == "__main__":
+    sys.exit(tries.main("commands/states", globals()))
