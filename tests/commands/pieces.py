@@ -106,7 +106,7 @@ def try_each_write_fails_or_is_interrupted():
             ends(words, text, printed[:8 * (number - 1)], "write failed\n", most=8, writes=number, error=errno.EIO)
 
 
-OTHERS = "perhaps it was made by other rules: --fair, --runs, --parked, --files or --open\n"
+OTHERS = "judged by --runs 4096 --parked 256 --files 256 --open 1024: perhaps it was made by other rules\n"
 NO_REPLY_IS_DUE = "line 1 of standard input: tell 1 ok\nthe rules want an order there: no reply is due\n" + OTHERS
 NEITHER = "bad line 2\nline 2 of standard input: x\nit begins with x, and with neither ask nor tell\n"
 UNENDED = "bad line 4\nline 4 of standard input: tell 2 o\nno newline ends it: check --cut drops the end of a trace that was cut off\n"

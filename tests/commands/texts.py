@@ -238,7 +238,7 @@ def try_writes_that_fail():
             assert ran == (b"write failed\n", 2), (command, left, ran)
 
 
-OTHERS = "perhaps it was made by other rules: --fair, --runs, --parked, --files or --open\n"
+OTHERS = "judged by --runs 4096 --parked 256 --files 256 --open 1024: perhaps it was made by other rules\n"
 
 
 def says(words, text, printed, told, status):

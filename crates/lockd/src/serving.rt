@@ -40,7 +40,7 @@ pub(crate) fn serve<T: Threads + Wait + Net + Files + Sync>(
 {
     let rt = host.rt;
     hold_closed_streams(rt);
-    let mut words = server_words(host, socket, file_of(trace));
+    let mut words = server_words(host, socket, file_of(trace), rules);
     let to = match opened(rt, trace, &mut rt.stderr(), &mut words) {
         Ok(to) => to,
         Err(status) => return status,
@@ -93,7 +93,7 @@ pub(crate) fn resume(
 ) -> Status {
     let rt = host.rt;
     hold_closed_streams(rt);
-    let mut words = server_words(host, socket, file);
+    let mut words = server_words(host, socket, file, rules);
     let trace = match file_to_go_on_in(rt, file) {
         Ok(trace) => trace,
         Err(why) => {
@@ -129,14 +129,14 @@ fn resume_opened(
 }
 
 // Says more of a server at this socket, whose trace's file is at this path, if that is asked for.
-fn server_words<'a>(host: Host<'a>, socket: &'a str, file: &'a str) -> Words<'a> {
+fn server_words<'a>(host: Host<'a>, socket: &'a str, file: &'a str, rules: Rules) -> Words<'a> {
     let rt = host.rt;
     let to = if host.verbose {
         Some(rt.stderr())
     } else {
         None
     };
-    ServerWords::new(rt, to, socket, file)
+    ServerWords::new(rt, to, socket, file, rules)
 }
 
 // The path of the trace's file; nothing if it has none.

@@ -18,6 +18,7 @@ use Rattle.lockd_cli.specs.declared.options.WhenFull.{WhenFull}
 use Rattle.lockd_cli.specs.declared.options.WhenFull.TheVariants as full
 use Rattle.lockd_cli.specs.declared.options.WhenStuck.{WhenStuck}
 use Rattle.lockd_cli.specs.declared.options.WhenStuck.TheVariants as stuck
+use Rattle.lockd_cli.specs.declared.said_rules.SaidRules.{SaidRules}
 
 -- the text is digits that write this number; a plus may stand first
 abbrev pub Spells : List ℕ → ℕ → Type 0
@@ -51,6 +52,15 @@ SayRules found rules =
     × IsNumberOf (one_text found (codes "parked")) AllowsParked standard.parked rules.parked
     × IsNumberOf (one_text found (codes "files")) AllowsFiles standard.files rules.files
     × IsNumberOf (one_text found (codes "open")) AllowsOpen standard.open_files rules.open_files
+
+-- the options say these rules, and nothing of those that are none here
+abbrev pub SayOwnRules : Found → SaidRules → Type 0
+SayOwnRules found rules =
+    IsFlagOf (one_text found (codes "fair")) rules.fair
+    × IsNumberSaid (one_text found (codes "runs")) rules.runs
+    × IsNumberSaid (one_text found (codes "parked")) rules.parked
+    × IsNumberSaid (one_text found (codes "files")) rules.files
+    × IsNumberSaid (one_text found (codes "open")) rules.open_files
 
 -- the word that is said of a file that can't be written, and the standard one if none is
 abbrev pub full_said : Found → Text → Text
@@ -109,13 +119,14 @@ socket_said found = unwrap_or (first_value found (codes "SOCKET")) []
 abbrev pub Ask : Found → Asked → Type 0
 Ask found (asked.Script rules) = SayRules found rules
 Ask found (asked.Bytes rules) = SayRules found rules
-Ask found (asked.State rules) = SayRules found rules
+Ask found (asked.State rules) = SayOwnRules found rules
 Ask found (asked.Check quiet cut rules) =
-    IsFlagOf (one_text found (codes "quiet")) quiet × IsFlagOf (one_text found (codes "cut")) cut × SayRules found rules
+    IsFlagOf (one_text found (codes "quiet")) quiet × IsFlagOf (one_text found (codes "cut")) cut
+    × SayOwnRules found rules
 Ask found (asked.Locks at file json rules) =
     IsNumberSaid (one_text found (codes "at")) at
     × (option_map string_bytes file ≡ first_value found (codes "file"))
-    × IsFlagOf (one_text found (codes "json")) json × SayRules found rules
+    × IsFlagOf (one_text found (codes "json")) json × SayOwnRules found rules
 Ask found (asked.Serve socket workers trace rules) =
     (string_bytes socket ≡ socket_said found)
     × IsNumberOf (one_text found (codes "workers")) AllowsWorkers 4 workers

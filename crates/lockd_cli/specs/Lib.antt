@@ -1,3 +1,4 @@
 pub mod Inside
 pub mod Numbers
+pub mod Said
 pub mod Version

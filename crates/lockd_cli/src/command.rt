@@ -201,20 +201,36 @@ const VERBOSE: Argument = Argument {
 
 /// The whole command line. Options without a command are those of `script`, and none stands before a command.
 pub(crate) fn lockd<'a>(alloc: Global) -> Result<Command<'a>, Error> {
-    let lockd = Command::new(alloc, "lockd")
+    let lockd = with_arguments(alloc, program(alloc), RULES)?;
+    with_commands(alloc, lockd, COMMANDS)
+}
+
+fn program<'a>(alloc: Global) -> Command<'a> {
+    Command::new(alloc, "lockd")
         .about("Keeps the locks of a directory of lock files")
         .version(VERSION)
         .args_conflicts_with_subcommands(true)
-        .after_help("Without a command it is script, with its options.");
-    with_commands(alloc, with_arguments(alloc, lockd, RULES)?)
+        .after_help("Without a command it is script, with its options.")
 }
 
-fn with_commands<'a>(alloc: Global, lockd: Command<'a>) -> Result<Command<'a>, Error> {
+fn with_commands<'a>(
+    alloc: Global,
+    lockd: Command<'a>,
+    usages: &[Usage],
+) -> Result<Command<'a>, Error> {
     let mut lockd = lockd;
-    for usage in COMMANDS.iter() {
-        lockd = lockd.subcommand(command(alloc, usage)?)?;
+    for usage in usages.iter() {
+        lockd = with_command(alloc, lockd, usage)?;
     }
     Ok(lockd)
+}
+
+fn with_command<'a>(
+    alloc: Global,
+    lockd: Command<'a>,
+    usage: &Usage,
+) -> Result<Command<'a>, Error> {
+    Ok(lockd.subcommand(command(alloc, usage)?)?)
 }
 
 fn command<'a>(alloc: Global, usage: &Usage) -> Result<Command<'a>, Error> {
@@ -230,9 +246,17 @@ fn with_arguments<'a>(
 ) -> Result<Command<'a>, Error> {
     let mut command = command;
     for argument in arguments.iter() {
-        command = command.arg(arg(alloc, argument)?)?;
+        command = with_argument(alloc, command, argument)?;
     }
     Ok(command)
+}
+
+fn with_argument<'a>(
+    alloc: Global,
+    command: Command<'a>,
+    argument: &Argument,
+) -> Result<Command<'a>, Error> {
+    Ok(command.arg(arg(alloc, argument)?)?)
 }
 
 fn arg<'a>(alloc: Global, argument: &Argument) -> Result<Arg<'a>, Error> {
@@ -245,27 +269,43 @@ fn arg<'a>(alloc: Global, argument: &Argument) -> Result<Arg<'a>, Error> {
 }
 
 fn of_kind<'a>(arg: Arg<'a>, argument: &Argument) -> Arg<'a> {
+    let name = argument.name;
     match argument.kind {
-        Kind::Positional => arg.required(true).action(ArgAction::Set),
-        Kind::Flag(letter) => {
-            let arg = arg.long(argument.name).action(ArgAction::SetTrue);
-            match letter {
-                None => arg,
-                Some(letter) => arg.short(letter),
-            }
-        }
-        Kind::Number => valued(arg, argument.name, "N").value_parser(clap::value_parser!(u32)),
-        Kind::FromOneTo(most) => {
-            let numbers = clap::value_parser!(u32).range(1..=most);
-            valued(arg, argument.name, "N").value_parser(numbers)
-        }
-        Kind::Text(name) => {
-            valued(arg, argument.name, name).value_parser(ValueParser::NonEmptyString)
-        }
-        Kind::OneOf(words) => valued(arg, argument.name, "WORD").value_parser(words),
+        Kind::Positional => positional(arg),
+        Kind::Flag(letter) => flag(arg, name, letter),
+        Kind::Number => valued(arg, name, "N", number()),
+        Kind::FromOneTo(most) => valued(arg, name, "N", from_one_to(most)),
+        Kind::Text(value) => valued(arg, name, value, ValueParser::NonEmptyString),
+        Kind::OneOf(words) => valued(arg, name, "WORD", ValueParser::from(words)),
     }
 }
 
-fn valued<'a>(arg: Arg<'a>, name: &'static str, value: &'static str) -> Arg<'a> {
-    arg.long(name).value_name(value).action(ArgAction::Set)
+fn positional<'a>(arg: Arg<'a>) -> Arg<'a> {
+    arg.required(true).action(ArgAction::Set)
+}
+
+fn flag<'a>(arg: Arg<'a>, name: &'static str, letter: Option<char>) -> Arg<'a> {
+    let arg = arg.long(name).action(ArgAction::SetTrue);
+    match letter {
+        None => arg,
+        Some(letter) => arg.short(letter),
+    }
+}
+
+fn number() -> ValueParser<'static> {
+    ValueParser::from(clap::value_parser!(u32))
+}
+
+fn from_one_to(most: i64) -> ValueParser<'static> {
+    ValueParser::from(clap::value_parser!(u32).range(1..=most))
+}
+
+fn valued<'a>(
+    arg: Arg<'a>,
+    name: &'static str,
+    value: &'static str,
+    parser: ValueParser<'static>,
+) -> Arg<'a> {
+    let arg = arg.long(name).value_name(value).action(ArgAction::Set);
+    arg.value_parser(parser)
 }

@@ -23,9 +23,11 @@
 
 mod command;
 mod options;
+mod said_rules;
 mod usage_error;
 mod version;
 
 pub use options::{Asked, CommandLine, Trace, WhenFull, WhenStuck, read_words};
+pub use said_rules::SaidRules;
 pub use usage_error::UsageError;
 pub use version::{VERSION, print_version};

@@ -4,17 +4,17 @@ ghost use Rattle.std.specs.Prelude.{◌≡◌, ◌↔◌, ◌≤◌, ◌<◌, �
 ghost use Rattle.std.specs.String.{string_bytes};
 ghost use Rattle.clap.specs.Matches.{found_of, one_text};
 ghost use Rattle.clap.specs.Words.{first_value};
-ghost use Rattle.fl_waiting.specs.Limits.{AllowsRuns, AllowsParked, AllowsFiles, AllowsOpen};
 ghost use Rattle.lockd_cli.specs.Inside.{Ask, AsksFor, AsksMore, IsNotForResume, IsNotForTrace, Misfits, MisfitsTrace};
-ghost use Rattle.lockd_cli.specs.Inside.{SayRules, SaysNoFull, SaysTrace, SaysWhenFull, SaysWhenStuck, Spells};
+ghost use Rattle.lockd_cli.specs.Inside.{SayOwnRules, SayRules, SaysNoFull, SaysTrace, SaysWhenFull, SaysWhenStuck, Spells};
 ghost use Rattle.lockd_cli.specs.Inside.{socket_said, word_of};
 ghost use Rattle.lockd_cli.specs.Numbers.{HasWorkers};
 
 use crate::command::lockd;
+use crate::said_rules::SaidRules;
 use crate::usage_error::UsageError;
 use clap::ArgMatches;
 use clap::error::ErrorKind;
-use fl_waiting::{MOST_FILES, MOST_OPEN, MOST_PARKED, MOST_RUNS, Rules};
+use fl_waiting::Rules;
 use std::alloc::Global;
 
 /// The most workers of a server.
@@ -46,8 +46,8 @@ pub enum Asked {
         quiet: bool,
         /// Whether the trace may be cut off.
         cut: bool,
-        /// The rules by which it is judged.
-        rules: Rules,
+        /// What is said of the rules by which it is judged.
+        rules: SaidRules,
     },
     /// Lists the locks after a trace's lines.
     Locks {
@@ -57,11 +57,11 @@ pub enum Asked {
         file: Option<String>,
         /// Whether they are a line of JSON, and not a table.
         json: bool,
-        /// The rules by which the trace was made.
-        rules: Rules,
+        /// What is said of the rules by which the trace was made.
+        rules: SaidRules,
     },
-    /// Tells what is there after a trace, as the head of one that goes on from there.
-    State(Rules),
+    /// Tells what is there after a trace that was made by such rules, as the head of one that goes on from there.
+    State(SaidRules),
     /// Serves a socket.
     Serve {
         /// The path of the socket.
@@ -165,15 +165,11 @@ fn asked_by(alloc: Global, matches: &ArgMatches<'_>) -> Result<Asked, UsageError
     match matches.subcommand() {
         Some(("script", options)) => Ok(Asked::Script(rules_of(options))),
         Some(("bytes", options)) => Ok(Asked::Bytes(rules_of(options))),
-        Some(("check", options)) => Ok(Asked::Check {
-            quiet: options.get_flag("quiet"),
-            cut: options.get_flag("cut"),
-            rules: rules_of(options),
-        }),
+        Some(("check", options)) => Ok(check_of(options)),
         Some(("locks", options)) => locks_of(alloc, options),
-        Some(("state", options)) => Ok(Asked::State(rules_of(options))),
+        Some(("state", options)) => Ok(Asked::State(said_rules_of(options))),
         Some(("serve", options)) => serve_of(alloc, options),
-        Some(("drive", options)) => Ok(Asked::Drive(socket_of(alloc, options)?)),
+        Some(("drive", options)) => drive_of(alloc, options),
         _ => Ok(Asked::Script(rules_of(matches))),
     }
 }
@@ -182,17 +178,20 @@ fn asked_by(alloc: Global, matches: &ArgMatches<'_>) -> Result<Asked, UsageError
 fn rules_of(options: &ArgMatches<'_>) -> Rules
     ensures { SayRules (found_of options.now) result }
 {
-    let standard = Rules::standard();
-    let rules = rules_with(
-        options.get_flag("fair"),
-        number_of(options, "runs").unwrap_or(standard.runs),
-        number_of(options, "parked").unwrap_or(standard.parked),
-    );
-    with_files(
-        rules,
-        number_of(options, "files").unwrap_or(standard.files),
-        number_of(options, "open").unwrap_or(standard.open_files),
-    )
+    said_rules_of(options).over(Rules::standard())
+}
+
+// What options say of rules.
+fn said_rules_of(options: &ArgMatches<'_>) -> SaidRules
+    ensures { SayOwnRules (found_of options.now) result }
+{
+    SaidRules {
+        fair: options.get_flag("fair"),
+        runs: number_of(options, "runs"),
+        parked: number_of(options, "parked"),
+        files: number_of(options, "files"),
+        open_files: number_of(options, "open"),
+    }
 }
 
 // The number that is said for an option.
@@ -204,28 +203,26 @@ fn number_of(options: &ArgMatches<'_>, name: &str) -> Option<u32>
     options.get_one::<u32>(name)
 }
 
-// The rules of these numbers. `clap` lets none through that is out of its range; such a one would become the nearest
-// that isn't.
-fn rules_with(fair: bool, runs: u32, parked: u32) -> Rules
-    ensures fair { result.fair ≡ fair }
-    ensures runs { AllowsRuns runs → result.runs ≡ runs }
-    ensures parked { AllowsParked parked → result.parked ≡ parked }
+// What the options of `check` ask for.
+fn check_of(options: &ArgMatches<'_>) -> Asked
+    ensures workers { HasWorkers result }
+    ensures check { word_of result ≡ codes "check" }
+    ensures said { Ask (found_of options.now) result }
 {
-    let runs = runs.clamp(1, MOST_RUNS);
-    let parked = parked.clamp(1, MOST_PARKED as u32);
-    let rules = Rules::standard().with_fair(fair);
-    rules.with_limits(runs, parked).unwrap()
+    Asked::Check {
+        quiet: options.get_flag("quiet"),
+        cut: options.get_flag("cut"),
+        rules: said_rules_of(options),
+    }
 }
 
-// The same rules with these numbers of files and open files, in the same way.
-fn with_files(rules: Rules, files: u32, open_files: u32) -> Rules
-    ensures files { AllowsFiles files → result.files ≡ files }
-    ensures open_files { AllowsOpen open_files → result.open_files ≡ open_files }
-    ensures others { (result.fair ≡ rules.fair) × (result.runs ≡ rules.runs) × (result.parked ≡ rules.parked) }
+// What the options of `drive` ask for.
+fn drive_of(alloc: Global, options: &ArgMatches<'_>) -> Result<Asked, UsageError>
+    ensures workers { IfOk result HasWorkers }
+    ensures drive { IfOk result (λ asked. word_of asked ≡ codes "drive") }
+    ensures said { IfOk result (Ask (found_of options.now)) }
 {
-    let files = files.clamp(1, MOST_FILES);
-    let open_files = open_files.clamp(1, MOST_OPEN);
-    rules.with_files(files, open_files).unwrap()
+    Ok(Asked::Drive(socket_of(alloc, options)?))
 }
 
 // What the options of `locks` ask for.
@@ -239,7 +236,7 @@ fn locks_of(alloc: Global, options: &ArgMatches<'_>) -> Result<Asked, UsageError
         at: number_of(options, "at"),
         file,
         json: options.get_flag("json"),
-        rules: rules_of(options),
+        rules: said_rules_of(options),
     })
 }
 

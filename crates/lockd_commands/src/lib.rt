@@ -1,5 +1,6 @@
 //! The commands of `lockd` but `serve` and `drive`, as functions: `script`, `check`, `locks`, `state` and `bytes` over a
-//! reader and two writers; and what `--verbose` says of what they and `drive` read.
+//! reader and two writers; the rules that a trace names (`read_opening`); and what `--verbose` says of what they and
+//! `drive` read.
 //!
 //! Contracts see no failure of a reader or a writer. They let through:
 //! - a command that prints its fault in part, or not at all;
@@ -21,6 +22,7 @@ mod bytes;
 mod check;
 mod kept;
 mod locks;
+mod opening;
 mod script;
 mod state;
 mod verbose;
@@ -29,9 +31,11 @@ pub use bytes::bytes_on;
 pub use check::{CheckOptions, check_on};
 pub use fl_core::Rules;
 pub use fl_judge::Details;
+pub use fl_trace::LINE_ROOM;
 pub use kept::Kept;
-pub use lockd_faults::{CommandFault, Noting, Status};
+pub use lockd_faults::{CommandFault, Noting, Status, end};
 pub use locks::{LocksOptions, locks_on};
+pub use opening::{Opening, read_opening};
 pub use script::script_on;
 pub use state::state_on;
 pub use verbose::{explain_hex, explain_script, explain_streams, explain_trace};

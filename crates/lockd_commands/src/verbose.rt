@@ -1,5 +1,6 @@
 //! What `--verbose` adds of a command that read lines.
 
+use fl_core::Rules;
 use fl_history::Line;
 use fl_judge::{Details, Difference};
 use fl_trace::{LINE_ROOM, push_line};
@@ -9,13 +10,14 @@ use std::fmt;
 use std::fmt::{Display, Formatter};
 use std::io::{ErrorKind, Write};
 
-/// Says more of how a command ended that read a trace from an input of this name. Lines are spelled in this memory, and
-/// less is said if there is none.
+/// Says more of how a command ended that read a trace from an input of this name, by these rules. Lines are spelled in
+/// this memory, and less is said if there is none.
 pub fn explain_trace<W: Write>(
     to: &mut W,
     alloc: Global,
     status: Status,
     name: &str,
+    rules: Rules,
     details: &Details,
 ) {
     match status {
@@ -27,6 +29,7 @@ pub fn explain_trace<W: Write>(
         Status::Different | Status::Faulted(CommandFault::Differs(_)) => {
             if let Some(difference) = &details.difference {
                 print_difference(to, alloc, name, difference);
+                print_rules(to, rules);
             }
         }
         Status::Faulted(_) => {}
@@ -125,9 +128,22 @@ fn print_difference<W: Write>(to: &mut W, alloc: Global, name: &str, difference:
             let _ = writeln!(to, "the rules want an order there: no reply is due");
         }
     }
+}
+
+// Says by which rules it was judged, as options.
+fn print_rules<W: Write>(to: &mut W, rules: Rules) {
+    let Rules {
+        fair,
+        runs,
+        parked,
+        files,
+        open_files,
+        ..
+    } = rules;
+    let fair = if fair { "--fair " } else { "" };
     let _ = writeln!(
         to,
-        "perhaps it was made by other rules: --fair, --runs, --parked, --files or --open"
+        "judged by {fair}--runs {runs} --parked {parked} --files {files} --open {open_files}: perhaps it was made by other rules"
     );
 }
 

@@ -3,14 +3,15 @@
 use crate::descriptors::hold_closed_streams;
 use crate::host::Host;
 use crate::words::explain_unconnected;
+use lockd_cli::SaidRules;
 use lockd_commands::{
-    CheckOptions, CommandFault, Details, Kept, LocksOptions, Noting, Rules, Status, bytes_on,
-    check_on, explain_hex, explain_script, explain_streams, explain_trace, locks_on, script_on,
-    state_on,
+    CheckOptions, CommandFault, Details, Kept, LINE_ROOM, LocksOptions, Noting, Opening, Rules,
+    Status, bytes_on, check_on, end, explain_hex, explain_script, explain_streams, explain_trace,
+    locks_on, read_opening, script_on, state_on,
 };
 use lockd_drive::drive_on;
 use std::io;
-use std::io::{ErrorKind, Write};
+use std::io::{ErrorKind, Read, Write};
 use std::path::Path;
 
 // What is read, in words.
@@ -35,31 +36,38 @@ pub fn script(host: Host<'_>, rules: Rules) -> Status {
 }
 
 /// `lockd check`.
-pub fn check(host: Host<'_>, rules: Rules, tells_quiet: bool, cut: bool) -> Status {
+pub fn check(host: Host<'_>, said: SaidRules, tells_quiet: bool, cut: bool) -> Status {
     let (rt, alloc) = (host.rt, host.rt.alloc());
     let options = CheckOptions { tells_quiet, cut };
     let mut input = Noting::new(rt.reader());
     let mut output = Noting::new(io::writer(rt));
     let mut faults = rt.stderr();
+    let mut room = [0; LINE_ROOM];
+    let opening = match read_opening(&mut input, &mut room) {
+        Ok(opening) => opening,
+        Err(fault) => return end_unread(host, &mut faults, fault, input.failed()),
+    };
+    let rules = rules_of(said, opening);
+    let mut trace = room[..opening.bytes].chain(&mut input);
     let mut details = Details::new();
     let status = check_on(
         alloc,
         rules,
         options,
-        &mut input,
+        &mut trace,
         &mut output,
         &mut faults,
         &mut details,
     );
     explain_failed(host, &mut faults, status, input.failed(), output.failed());
-    explain_details(host, &mut faults, status, &details);
+    explain_details(host, &mut faults, status, rules, &details);
     status
 }
 
 /// `lockd locks`.
 pub fn locks(
     host: Host<'_>,
-    rules: Rules,
+    said: SaidRules,
     at: Option<u32>,
     file: &Option<String>,
     json: bool,
@@ -78,38 +86,52 @@ pub fn locks(
     let mut input = Noting::new(rt.reader());
     let mut output = Noting::new(io::writer(rt));
     let mut faults = rt.stderr();
+    let mut room = [0; LINE_ROOM];
+    let opening = match read_opening(&mut input, &mut room) {
+        Ok(opening) => opening,
+        Err(fault) => return end_unread(host, &mut faults, fault, input.failed()),
+    };
+    let rules = rules_of(said, opening);
+    let mut trace = room[..opening.bytes].chain(&mut input);
     let mut details = Details::new();
     let status = locks_on(
         alloc,
         rules,
         options,
-        &mut input,
+        &mut trace,
         &mut output,
         &mut faults,
         &mut details,
     );
     explain_failed(host, &mut faults, status, input.failed(), output.failed());
-    explain_details(host, &mut faults, status, &details);
+    explain_details(host, &mut faults, status, rules, &details);
     status
 }
 
 /// `lockd state`.
-pub fn state(host: Host<'_>, rules: Rules) -> Status {
+pub fn state(host: Host<'_>, said: SaidRules) -> Status {
     let (rt, alloc) = (host.rt, host.rt.alloc());
     let mut input = Noting::new(rt.reader());
     let mut output = Noting::new(io::writer(rt));
     let mut faults = rt.stderr();
+    let mut room = [0; LINE_ROOM];
+    let opening = match read_opening(&mut input, &mut room) {
+        Ok(opening) => opening,
+        Err(fault) => return end_unread(host, &mut faults, fault, input.failed()),
+    };
+    let rules = rules_of(said, opening);
+    let mut trace = room[..opening.bytes].chain(&mut input);
     let mut details = Details::new();
     let status = state_on(
         alloc,
         rules,
-        &mut input,
+        &mut trace,
         &mut output,
         &mut faults,
         &mut details,
     );
     explain_failed(host, &mut faults, status, input.failed(), output.failed());
-    explain_details(host, &mut faults, status, &details);
+    explain_details(host, &mut faults, status, rules, &details);
     status
 }
 
@@ -176,9 +198,36 @@ fn explain_failed<W: Write>(
     }
 }
 
-// Says more of a trace that was read, if more is to be said.
-fn explain_details<W: Write>(host: Host<'_>, to: &mut W, status: Status, details: &Details) {
+// Says more of a trace that was read by these rules, if more is to be said.
+fn explain_details<W: Write>(
+    host: Host<'_>,
+    to: &mut W,
+    status: Status,
+    rules: Rules,
+    details: &Details,
+) {
     if host.verbose {
-        explain_trace(to, host.rt.alloc(), status, INPUT, details);
+        explain_trace(to, host.rt.alloc(), status, INPUT, rules, details);
     }
+}
+
+// The rules that are said, and those of the trace's head, or the standard ones, where nothing is said.
+fn rules_of(said: SaidRules, opening: Opening) -> Rules {
+    let named = match opening.rules {
+        Some(named) => named,
+        None => Rules::standard(),
+    };
+    said.over(named)
+}
+
+// Ends a command whose input couldn't be read.
+fn end_unread<W: Write>(
+    host: Host<'_>,
+    faults: &mut W,
+    fault: CommandFault,
+    unread: Option<ErrorKind>,
+) -> Status {
+    let status = end(faults, Err(fault));
+    explain_failed(host, faults, status, unread, None);
+    status
 }

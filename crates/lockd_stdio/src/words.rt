@@ -1,6 +1,6 @@
 //! What `--verbose` adds on standard error.
 
-use lockd_commands::{Details, Status, explain_streams, explain_trace};
+use lockd_commands::{Details, Rules, Status, explain_streams, explain_trace};
 use lockd_resume::ResumeObserver;
 use lockd_streams::{Observer, Parting, Untraced};
 use std::alloc::Global;
@@ -19,6 +19,7 @@ pub struct ServerWords<'a, R, W> {
     // The path of the socket, and that of the trace's file, if there is one.
     socket: &'a str,
     file: &'a str,
+    rules: Rules,
     // It goes on behind the file's lines.
     goes_on: bool,
     // It has made its socket.
@@ -27,12 +28,19 @@ pub struct ServerWords<'a, R, W> {
 
 impl<'a, R: Files, W: Write> ServerWords<'a, R, W> {
     /// To this writer; to none, nothing is said.
-    pub fn new(rt: &'a R, to: Option<W>, socket: &'a str, file: &'a str) -> ServerWords<'a, R, W> {
+    pub fn new(
+        rt: &'a R,
+        to: Option<W>,
+        socket: &'a str,
+        file: &'a str,
+        rules: Rules,
+    ) -> ServerWords<'a, R, W> {
         ServerWords {
             rt,
             to,
             socket,
             file,
+            rules,
             goes_on: false,
             listens: false,
         }
@@ -154,7 +162,7 @@ impl<R: Files, W: Write> ResumeObserver for ServerWords<'_, R, W> {
 
     fn unresumed(&mut self, alloc: Global, status: Status, details: &Details) {
         if let Some(to) = &mut self.to {
-            explain_trace(to, alloc, status, self.file, details);
+            explain_trace(to, alloc, status, self.file, self.rules, details);
         }
     }
 }

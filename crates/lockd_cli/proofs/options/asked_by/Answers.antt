@@ -1,7 +1,6 @@
-use Rattle.std.proofs.Common.{inl, rules, codes}
+use Rattle.std.proofs.Common.{Ok, inl, rules, codes}
 use Rattle.clap.specs.Matches.{found_of}
-use Rattle.lockd_cli.specs.Inside.{Ask}
-use Rattle.lockd_cli.specs.declared.options.Asked.TheVariants.{Check}
+use Rattle.lockd_cli.specs.declared.usage_error.UsageError.{UsageError}
 use Rattle.lockd_cli.proofs.AskedLemmas.{is_said, asked_so}
 use Rattle.lockd_cli.proofs.options.asked_by.Goals as goal
 
@@ -21,11 +20,7 @@ pub returns-in-Some-check-default-clause-said : goal.returns-in-Some-check-defau
 returns-in-Some-check-default-clause-said c =
     let found = found_of c.in-Some-check-default.options.now in
     let said = is_said c.args.matches.now (codes "check") found (search rules) (search rules) in
-    let quiet = c.get_flag.ensures in
-    let cut = c.get_flag-in-Some-check-default.ensures in
-    let asks : Ask found (Check c.get_flag.result c.get_flag-in-Some-check-default.result c.rules_of-in-Some-check-default.result) =
-    ((quiet.none, quiet.value, quiet.other), (cut.none, cut.value, cut.other), c.rules_of-in-Some-check-default.ensures) in
-    inl (found, said, asks)
+    asked_so {E = UsageError} c.args.matches.now (codes "check") found (Ok c.check_of.result) said c.check_of.ensures.check c.check_of.ensures.said
 
 pub returns-in-Some-locks-default-clause-said : goal.returns-in-Some-locks-default-clause-said
 returns-in-Some-locks-default-clause-said c =
@@ -37,7 +32,7 @@ pub returns-in-Some-state-default-clause-said : goal.returns-in-Some-state-defau
 returns-in-Some-state-default-clause-said c =
     let found = found_of c.in-Some-state-default.options.now in
     let said = is_said c.args.matches.now (codes "state") found (search rules) (search rules) in
-    inl (found, said, c.rules_of-in-Some-state-default.ensures)
+    inl (found, said, c.said_rules_of.ensures)
 
 pub returns-in-Some-serve-default-clause-said : goal.returns-in-Some-serve-default-clause-said
 returns-in-Some-serve-default-clause-said c =
@@ -45,9 +40,8 @@ returns-in-Some-serve-default-clause-said c =
     let said = is_said c.args.matches.now (codes "serve") found (search rules) (search rules) in
     asked_so c.args.matches.now (codes "serve") found c.serve_of.result said c.serve_of.ensures.serve c.serve_of.ensures.said
 
-pub returns-in_ok-socket_of-in-Some-drive-default-clause-said :
-    goal.returns-in_ok-socket_of-in-Some-drive-default-clause-said
-returns-in_ok-socket_of-in-Some-drive-default-clause-said c =
+pub returns-in-Some-drive-default-clause-said : goal.returns-in-Some-drive-default-clause-said
+returns-in-Some-drive-default-clause-said c =
     let found = found_of c.in-Some-drive-default.options.now in
     let said = is_said c.args.matches.now (codes "drive") found (search rules) (search rules) in
-    inl (found, said, search rules)
+    asked_so c.args.matches.now (codes "drive") found c.drive_of.result said c.drive_of.ensures.drive c.drive_of.ensures.said
