@@ -4,7 +4,7 @@ from itertools import chain
 
 from report.locks import WRITE
 from report.session import GRANTED, STILL
-from report.tables import blockers_text, range_text
+from report.tables import Lengths, blockers_text, range_text
 
 MOST_LAYERS = 8
 # A trace of more orders than this is shown in part at first, so many of them.
@@ -37,11 +37,11 @@ class Bar:
 
 
 def bars_by_key(session, clock):
-    found = defaultdict(list)
+    found, lengths = defaultdict(list), Lengths(clock)
     for it in session.held:
         found[it.key].append(Bar(it.first, it.last, HELD, it.run, it.key.flock))
     for it in session.waits:
-        took = clock.took(it.order, it.end_line) if clock and it.end_line else None
+        took = lengths.took(it)
         note = blockers_text(it) if it.ended in WAITS else f"{blockers_text(it)}; ended with {it.ended}"
         what = WAITS.get(it.ended, OTHER_END)
         found[it.wish.key].append(Bar(it.first, it.last, what, it.wish, it.wish.key.flock, note, (took or 0) // 1000))
@@ -95,19 +95,20 @@ def columns(bars, words, notes):
     }
 
 
-def first_window(found, count, clock):
+def first_window(trace, found, clock):
     """From where to where the page shows a long trace at first: the first orders, or those from the first bar on if none of them has one. Over times, where so
-    many bars begin in the least time: for hours before the first orders, or between them, there may be nothing."""
+    many bars begin in the least time: for hours before the first orders, or between them, there may be nothing. All bars of a head begin at once."""
     firsts = sorted(bar.first for bars in found.values() for bar in bars)
-    if clock and firsts:
-        times = [clock.places[it] for it in firsts]
+    begun = [it for it in firsts if it >= trace.first()]
+    if clock and begun:
+        times = [clock.places[it] for it in begun]
         ends = times[min(FIRST_SHOWN, len(times)) - 1:]
-        begun, over = min(zip(times, ends), key=lambda it: it[1] - it[0])
-        return [begun // 1000, over // 1000 + 1]
-    first = firsts[0] if firsts and firsts[0] >= FIRST_SHOWN else 0
+        left, right = min(zip(times, ends), key=lambda it: it[1] - it[0])
+        return [left // 1000, right // 1000 + 1]
     if clock:
         return [0, clock.places[FIRST_SHOWN] // 1000 + 1]
-    return [first, min(first + FIRST_SHOWN, count)]
+    first = firsts[0] if firsts and firsts[0] >= FIRST_SHOWN else 0
+    return [first, min(first + FIRST_SHOWN, trace.places())]
 
 
 def chart(trace, session, clock):
@@ -120,9 +121,9 @@ def chart(trace, session, clock):
     bars = columns(list(chain.from_iterable(found[key] for _, key in keys)), words, notes)
     bars["first"] = list(chain.from_iterable(differences(it.first for it in found[key]) for _, key in keys))
     places = differences(it // 1000 for it in clock.places + clock.places[-1:]) if clock else None
-    count = len(trace.orders)
+    lines = [*([trace.head.last] if trace.head else []), *(it.line for it in trace.orders)]
     return {
-        "window": first_window(found, count, clock) if count > MOST_WHOLE else None,
-        "orders": count, "lines": differences(it.line for it in trace.orders), "places": places, "files": files, "lanes": lanes,
+        "window": first_window(trace, found, clock) if len(trace.orders) > MOST_WHOLE else None,
+        "first": 1 - trace.first(), "orders": trace.places(), "lines": differences(lines), "places": places, "files": files, "lanes": lanes,
         "ranges": list(words.places), "notes": list(notes.places), "bars": bars,
     }

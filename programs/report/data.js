@@ -1,4 +1,5 @@
-// The data of the page, and its window. Orders count from 0 here, and from 1 in all that is shown.
+// The data of the page, and its window. Places count from 0 here, and from `data.first` in all that is shown: an order's place is one less than its number, or
+// is its number if the trace begins with a head, which has place 0.
 const LABELS = 250, HEAD = 22, LAYER = 14, GAP = 5, NARROW = 4, LEAST = 8, MOST_LISTED = 300, AROUND = 60;
 // As in chart.py: what a bar or a mark says, and how it is filled or which mark it is.
 const HELD = 0, FIRST_MARK = 7;
@@ -20,6 +21,7 @@ const summed = (list, start = 0) => { let sum = start; return list.map(it => (su
 const lines = summed(data.lines);
 const places = data.places ? summed(data.places) : null;
 const end = places ? places[data.orders] || 1 : Math.max(data.orders, 1);
+const isBefore = order => order === 0 && data.first === 0;
 const placeOf = places ? order => places[order] : order => order;
 const bars = data.bars;
 const lanes = [];

@@ -94,9 +94,9 @@ function rowShape(it) {
         `<path d="M0 ${it.top + it.size - 2.5}H3000" stroke="#e3e3e3"/>`;
 }
 
-// Round numbers of orders, which count from 1, or round times.
+// Round numbers of orders, or round times.
 function ticks() {
-    const step = tickStep((view[1] - view[0]) / Math.max(2, (right() - left()) / 130)), counted = places ? 0 : 1, found = [];
+    const step = tickStep((view[1] - view[0]) / Math.max(2, (right() - left()) / 130)), counted = places ? 0 : data.first, found = [];
     for (let at = Math.ceil((view[0] + counted) / step) * step; at <= view[1] + counted; at += step)
         found.push(at - counted);
     return found;
@@ -108,7 +108,7 @@ function tickStep(least) {
 }
 
 function drawAxis(at) {
-    const words = place => places ? `${grouped(place / 1000)} ms` : grouped(place + 1);
+    const words = place => places ? `${grouped(place / 1000)} ms` : grouped(place + data.first);
     const texts = at.filter(it => x(it) < right() - 50).map(it =>
         `<path d="M${x(it).toFixed(1)} 16V22" stroke="#555"/><text x="${(x(it) + 3).toFixed(1)}" y="15">${words(it)}</text>`);
     byId("axis").innerHTML = `<text x="6" y="15" fill="#444">${places ? "time" : "order"}</text>${texts.join("")}`;
@@ -122,10 +122,10 @@ function markedShape() {
 
 function summary() {
     const [from, to] = orders(), here = shown.filter(it => it.lane), files = shown.length - here.length;
-    const span = `rders ${grouped(from + 1)} to ${grouped(to)}`;
+    const last = data.first - 1, span = `rders ${grouped(from + data.first)} to ${grouped(to + last)}`;
     const range = places ? `${milliseconds(view[0])} to ${milliseconds(view[1])}, o${span}` : `O${span}`;
     const which = found ? ` of ${grouped(found.size)} found` : "";
-    return `${range} of ${grouped(data.orders)}: ${counted(here.length, "lane")}${which} in ${counted(files, "file")}`;
+    return `${range} of ${grouped(data.orders + last)}: ${counted(here.length, "lane")}${which} in ${counted(files, "file")}`;
 }
 
 function draw() {

@@ -13,6 +13,9 @@ class Files:
         self.names[node] = name
         self.linked[name] = node
 
+    def name_unlinked(self, name, node):
+        self.names[node] = name
+
     def unlink(self, name):
         self.linked.pop(name, None)
 

@@ -59,7 +59,7 @@ function recall() {
         find(link.get("find"));
     }
     if (link.has("at")) {
-        lead(Math.min(Math.max(1, +link.get("at")), data.orders) - 1);
+        lead(Math.min(Math.max(data.first, +link.get("at")), data.orders + data.first - 1) - data.first);
     } else if (link.has("from") && link.has("to")) {
         move(+link.get("from"), +link.get("to"));
     }

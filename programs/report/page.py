@@ -41,22 +41,23 @@ def text(it):
 
 # ---- Tables
 
-def cell_html(cell):
+def cell_html(cell, number):
+    """A cell. `number` is that of the place 0."""
     if isinstance(cell, Place):
-        return f'<td><a href="#at={cell.at + 1}">{text(cell.text)}</a></td>'
+        return f'<td><a href="#at={cell.at + number}">{text(cell.text)}</a></td>'
     if isinstance(cell, list):
         return f"<td><ol>{''.join(f'<li>{text(it)}</li>' for it in cell)}</ol></td>"
     is_number = re.fullmatch(r"[\d,.]+", cell)
     return f'<td{" class=n" if is_number else ""}>{text(cell)}</td>'
 
 
-def table_html(table):
+def table_html(table, number):
     about = f" <span>{text(table.about)}</span>" if table.about else ""
     if not table.rows:
         return f'<div class="wide"><table><caption>{text(table.title)}{about}</caption><tbody><tr><td>{text(table.nothing)}</td></tr></tbody></table></div>'
     numbers = [isinstance(it, str) and re.fullmatch(r"[\d,.]+", it) for it in table.rows[0]]
     heads = "".join(f'<th scope="col"{" class=n" if is_number else ""}>{text(it)}</th>' for it, is_number in zip(table.heads, numbers))
-    rows = "".join(f"<tr>{''.join(map(cell_html, it))}</tr>" for it in table.rows)
+    rows = "".join(f"<tr>{''.join(cell_html(cell, number) for cell in it)}</tr>" for it in table.rows)
     more = f"<p>{len(table.rows):,} of {table.count:,} are shown.</p>" if table.count > len(table.rows) else ""
     return (f'<div class="wide"><table><caption>{text(table.title)}{about}</caption><thead><tr>{heads}</tr></thead>'
             f"<tbody>{rows}</tbody></table></div>{more}")
@@ -131,13 +132,15 @@ def facts_html(trace, session, clock):
     owners = {(it.key.flock, it.key.owner) for it in session.held}
     found = [("Orders", len(trace.orders)), ("Files", len(session.files.names)), ("Owners of locks", len(owners)), ("Locks held", len(session.held)),
              ("Requests that waited", len(session.waits)), ("Requests with an error", len(session.refused)), ("Deadlocks", len(session.deadlocks))]
-    longest = lengths.text(max(map(lengths.of, session.waits), default=0))
-    facts = [(words, f"{number:,}") for words, number in found] + [(f"Longest wait, {lengths.unit}", longest)]
+    facts = [(words, f"{number:,}") for words, number in found] + [(f"Longest wait, {lengths.unit}", lengths.longest(session.waits))]
     return "".join(f"<li>{words} <b>{number}</b></li>" for words, number in facts)
 
 
 def notes_html(trace, session):
     found = []
+    if trace.head:
+        found.append(f"The trace begins with a head, which stands at 0, before order 1, and tells of {trace.head.before:,} orders and replies before. It doesn't tell "
+                     f"how long locks were held by then, and requests waited. Its rules are <code>{trace.head.rules()}</code>.")
     if trace.is_cut:
         found.append("The last line is cut off, and isn't shown. Its order may lack replies.")
     if session.strays:
@@ -148,7 +151,7 @@ def notes_html(trace, session):
 def ends(trace, clock):
     if clock:
         return "0 ms", f"{clock.places[-1] / 1_000_000:,.3f} ms"
-    return "order 1", f"order {len(trace.orders):,}"
+    return "the head" if trace.head else "order 1", f"order {len(trace.orders):,}"
 
 
 def data_html(data):
@@ -161,6 +164,6 @@ def page(title, trace, session, clock):
     parts = {
         "title": text(title), "style": file_text("page.css"), "script": script_text(), "notes": notes_html(trace, session),
         "facts": facts_html(trace, session, clock), "overview": overview_html(session, clock), "begin": begin, "end": end, "legend": legend_html(),
-        "tables": "\n".join(map(table_html, tables(session, clock))), "data": data_html(chart(trace, session, clock)),
+        "tables": "\n".join(table_html(it, 1 - trace.first()) for it in tables(session, clock)), "data": data_html(chart(trace, session, clock)),
     }
     return re.sub(r"\{\{(\w+)\}\}", lambda it: parts[it[1]], file_text("page.html"))

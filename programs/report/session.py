@@ -11,7 +11,7 @@ MOST_BLOCKERS = 3
 STILL = "still waiting"
 GRANTED = "granted"
 
-# A lock that was held from one order up to another; `last` is the number of all orders if nothing ended it.
+# A lock that was held from one order up to another; `last` is the place behind all orders if nothing ended it.
 Held = namedtuple("Held", "key run first last")
 # An order that got an error. `wish` is None if it asked for no lock.
 Refused = namedtuple("Refused", "order error wish line")
@@ -35,7 +35,7 @@ class Session:
         self.files, self.table, self.parked = Files(), Table(), {}
         self.since = {}
         self.held, self.waits, self.refused, self.deadlocks = [], [], [], []
-        self.counts = []  # after each order: how many locks were held, and how many requests waited
+        self.counts = []  # after the head, if there is one, and each order: how many locks were held, and how many requests waited
         self.asked = Counter()  # requests to set a lock, by file
         self.queue, self.longest = Counter(), {}
         self.strays = 0  # replies that belong to no request
@@ -92,6 +92,20 @@ class Session:
         if wait.ended == GRANTED:
             self.grant(at, wait.wish)
 
+    # ---- What is there before the first order
+
+    def begin_with(self, head):
+        """Locks and requests of a head are there from its place on. A second request of one unique changes nothing."""
+        for node, _, is_linked, _, _, _, name in head.nodes:
+            (self.files.name if is_linked else self.files.name_unlinked)(name, node)
+        for fh, node in head.files:
+            self.files.open_as(fh, node)
+        for node, owner, start, end, kind, pid, flock in head.locks:
+            self.strike(0, Key(bool(flock), node, owner), start, end, (kind, pid))
+        for order in head.waits:
+            self.begin(order, None)
+        self.count()
+
     # ---- Orders
 
     def answered(self, order, reply):
@@ -122,6 +136,8 @@ class Session:
 
     def begin(self, order, own):
         """What the order does with its own reply, if it has one. With the unique of a request that waits it changes nothing."""
+        if order.op in ("setlk", "setlkw") and order.body[4] in (READ, WRITE):
+            self.asked[order.node] += 1
         if own and own.error():
             self.refuse(order, own)
         elif order.unique in self.parked:
@@ -133,11 +149,12 @@ class Session:
 
     def take(self, order):
         own = order.replies[0] if order.replies and order.replies[0].unique == order.unique else None
-        if order.op in ("setlk", "setlkw") and order.body[4] in (READ, WRITE):
-            self.asked[order.node] += 1
         self.begin(order, own)
         for reply in order.replies[1 if own else 0:]:
             self.end_wait(order.at, reply)
+        self.count()
+
+    def count(self):
         self.counts.append((self.table.count, len(self.parked)))
 
     def finish(self):
@@ -151,6 +168,8 @@ class Session:
 def follow(trace):
     session = Session()
     session.strays = len(trace.stray)
+    if trace.head:
+        session.begin_with(trace.head)
     for order in trace.orders:
         session.take(order)
     session.finish()

@@ -19,13 +19,21 @@ class BadLine(Exception):
 
 
 class Order:
-    """An order and its replies. `at` counts orders from 0, `line` lines from 1. `body` has the fields of its kind."""
+    """An order and its replies. `at` is its place on the axis: orders count from 0, or from 1 in a trace with a head, which has place 0. `line` counts lines
+    from 1. `body` has the fields of its kind."""
 
-    __slots__ = "at", "line", "worker", "unique", "node", "pid", "op", "body", "replies"
+    __slots__ = "at", "line", "unique", "node", "op", "body", "replies"
+    is_before = False
 
-    def __init__(self, at, line, head, op, body):
-        self.at, self.line, self.op, self.body, self.replies = at, line, op, body, []
-        self.worker, self.unique, self.node, _, _, self.pid = head
+    def __init__(self, at, line, unique, node, op, body):
+        self.at, self.line, self.unique, self.node, self.op, self.body, self.replies = at, line, unique, node, op, body, []
+
+
+class OrderBefore(Order):
+    """A SETLKW that waits since before the trace. Its `line` is that of the head which tells it."""
+
+    __slots__ = ()
+    is_before = True
 
 
 class Reply:
@@ -77,7 +85,7 @@ def error(word):
 
 
 u64, u32, flag = number(U64), number(U32), number(2)
-HEAD = number(16), u64, u64, u32, u32, u32
+ASKED = number(16), u64, u64, u32, u32, u32
 LOCK = u64, u64, u64, u64, u32, u32, u32
 ATTRIBUTES = u64, u32, u32, u32, u32
 BODIES = {
@@ -86,6 +94,10 @@ BODIES = {
 }
 RESULTS = {
     b"ok": (), b"entry": ATTRIBUTES, b"attr": ATTRIBUTES, b"open": (u64,), b"made": (*ATTRIBUTES, u64), b"lock": (u64, u64, u32, u32), b"err": (error,),
+}
+STATE = u64, flag, u32, u32, u32, u32, u64, u64
+PARTS = {
+    b"node": (u64, u64, flag, u32, u32, u32, name), b"file": (u64, u64), b"lock": (u64, u64, u64, u64, flag, u32, flag), b"wait": (u64, u64, *LOCK), b"go": (),
 }
 
 
@@ -97,7 +109,8 @@ def fields(readers, words):
 
 def read_order(at, line, words):
     op = words[6]
-    return Order(at, line, fields(HEAD, words[:6]), op.decode(), fields(BODIES[op], words[7:]))
+    _, unique, node, *_ = fields(ASKED, words[:6])
+    return Order(at, line, unique, node, op.decode(), fields(BODIES[op], words[7:]))
 
 
 def read_reply(line, words):
@@ -105,18 +118,59 @@ def read_reply(line, words):
     return Reply(line, u64(words[0]), result.decode(), fields(RESULTS[result], words[2:]))
 
 
+class Head:
+    """What is there before the first order. `nodes`, `files` and `locks` have the numbers and names of their lines, and `waits` are orders. `last` is the line
+    that ends it, or None until that is read."""
+
+    __slots__ = "before", "fair", "most", "nodes", "files", "locks", "waits", "last"
+
+    def __init__(self, words):
+        self.before, self.fair, *self.most, _, _ = fields(STATE, words)
+        self.nodes, self.files, self.locks, self.waits, self.last = [], [], [], [], None
+
+    def add(self, line, word, words):
+        part = fields(PARTS[word], words)
+        if word == b"go":
+            self.last = line
+        elif word == b"wait":
+            unique, node, *body = part
+            self.waits.append(OrderBefore(0, line, unique, node, "setlkw", body))
+        else:
+            {b"node": self.nodes, b"file": self.files, b"lock": self.locks}[word].append(part)
+
+    def rules(self):
+        """As options of `lockd`."""
+        options = (f"{option} {most}" for option, most in zip(("--runs", "--parked", "--files", "--open"), self.most))
+        return " ".join([*["--fair"] * self.fair, *options])
+
+
 class Trace:
-    """The orders of a trace; replies before the first order; whether a last line was cut off."""
+    """The head of a trace, or None; its orders; replies before the first order; whether a last line was cut off."""
 
     def __init__(self):
-        self.orders, self.stray, self.lines, self.is_cut = [], [], 0, False
+        self.head, self.orders, self.stray, self.lines, self.is_cut = None, [], [], 0, False
+
+    def first(self):
+        """The place of the first order."""
+        return 1 if self.head else 0
+
+    def places(self):
+        """How many places the axis has."""
+        return self.first() + len(self.orders)
+
+    def is_in_head(self):
+        return self.head is not None and self.head.last is None
 
     def add(self, line):
         self.lines += 1
         word, *words = line.split(b" ")
         try:
-            if word == b"ask":
-                self.orders.append(read_order(len(self.orders), self.lines, words))
+            if self.is_in_head():
+                self.head.add(self.lines, word, words)
+            elif word == b"state" and self.lines == 1:
+                self.head = Head(words)
+            elif word == b"ask":
+                self.orders.append(read_order(self.first() + len(self.orders), self.lines, words))
             elif word == b"tell":
                 reply = read_reply(self.lines, words)
                 (self.orders[-1].replies if self.orders else self.stray).append(reply)
@@ -127,10 +181,12 @@ class Trace:
 
 
 def read_trace(text):
-    """The trace in these bytes, up to its last whole line. Raises `BadLine`."""
+    """The trace in these bytes, up to its last whole line. Raises `BadLine`, also of the line that a head lacks at the end."""
     trace = Trace()
     *lines, rest = text.split(b"\n")
     trace.is_cut = bool(rest)
     for line in lines:
         trace.add(line)
+    if trace.is_in_head():
+        raise BadLine(trace.lines + 1)
     return trace

@@ -1,6 +1,6 @@
 // What is said of bars: at the pointer, and in a table.
 const kindText = bar => bars.what[bar] & 1 ? "write" : "read";
-const lineText = order => order < data.orders ? `line ${grouped(lines[order])}` : "the end of the trace";
+const lineText = order => isBefore(order) ? "before the trace" : order < data.orders ? `line ${grouped(lines[order])}` : "the end of the trace";
 
 function spanText(bar) {
     if (isMark(bar)) return `on ${lineText(bars.first[bar])}`;
@@ -9,8 +9,8 @@ function spanText(bar) {
 
 function tookText(bar) {
     if (isMark(bar)) return "";
-    const took = whatOf(bar) === HELD ? 0 : bars.took[bars.noteOf[bar]];
-    return places ? milliseconds(took || placeOf(lastOf(bar)) - placeOf(bars.first[bar])) : counted(bars.length[bar], "order");
+    const took = whatOf(bar) === HELD ? 0 : bars.took[bars.noteOf[bar]], least = isBefore(bars.first[bar]) && !took ? "at least " : "";
+    return least + (places ? milliseconds(took || placeOf(lastOf(bar)) - placeOf(bars.first[bar])) : counted(bars.length[bar], "order"));
 }
 
 function noteText(bar) {

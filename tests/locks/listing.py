@@ -1,12 +1,17 @@
-"""Tries `lockd locks` of the built program: lists written by hand, random traces beside a model, and the growing trace of a server under load.
+"""Tries `lockd locks` of the built program: lists written by hand, random traces beside a model, and the growing trace of a server under load. And what
+programs/lockd_locks prints of a trace with a head.
 
 The model is that of tests/model.py, which carries out the orders of a trace. `tries.py` says how it ends.
 """
 import collections
+import contextlib
 import json
+import os
 import random
+import shlex
 import subprocess
 import sys
+import tempfile
 import threading
 import time
 
@@ -310,6 +315,63 @@ def try_2000_random_traces():
             assert lists(text.encode(), *words) == table(model, rows), (seed, at)
     assert held > 2_000 and waiting > 500, (held, waiting)
     return f"{held} locks and {waiting} that wait"
+
+
+# ---- the list of a folder ----
+
+@contextlib.contextmanager
+def folder_of(trace, *rules):
+    """A folder that seems to be mounted: two processes have the words of a carrier and of its server, which goes on with this trace. They only wait."""
+    with tempfile.TemporaryDirectory(prefix="try-lockd-") as at:
+        served = shlex.join(["sh", "serve", "socket", "--resume", f"{at}/trace", *rules])
+        for name, text in ("trace", trace), ("serve", b"echo; read _\n"), ("carry", f"{served}\n:\n".encode()):
+            with open(f"{at}/{name}", "wb") as file:
+                file.write(text)
+        words = ["lockd_mount", "carry", f"{at}/folder"]
+        with subprocess.Popen(words, executable="/bin/sh", cwd=at, stdin=subprocess.PIPE, stdout=subprocess.PIPE) as carrier:
+            carrier.stdout.readline()
+            yield f"{at}/folder"
+
+
+def listed(folder, *words):
+    """What programs/lockd_locks prints and tells of the folder, and its status."""
+    ran = subprocess.run([sys.executable, f"{tries.TOP}/programs/lockd_locks", *words, folder], env={**os.environ, "LOCKD": tries.PROGRAM}, capture_output=True,
+                         timeout=tries.PATIENCE, check=False)
+    return ran.stdout.decode(), ran.stderr.decode(), ran.returncode
+
+
+FOLDER_RULES = (), ("--fair",), ("--runs", "9", "--parked", "4"), ("--fair", "--files", "65536", "--open", "4", "--runs", "65536", "--parked", "1024")
+
+
+def try_a_folder_whose_trace_begins_with_a_head():
+    """Its list is that of the whole trace, whether the server was started with the rules that the head names, or left them to it."""
+    rows = 0
+    for seed in range(24):
+        numbers, rules = random.Random(seed), FOLDER_RULES[seed % 4]
+        text = random_trace(numbers, rules)
+        lines = text.splitlines(True)
+        at = numbers.choice([*(at for at, line in enumerate(lines) if line.startswith("ask ")), len(lines)])
+        piece = run("state", *rules, text="".join(lines[:at]).encode()).stdout + "".join(lines[at:]).encode()
+        words = [(), ("--json",), ("--file", "a")][seed % 3]
+        expected = lists(text.encode(), *words, *rules), "", 0
+        rows += expected[0].count("\n") - 1
+        for trace, told in (text.encode(), rules), (piece, ()), (piece, rules):
+            with folder_of(trace, *told) as folder:
+                assert listed(folder, *words) == expected, (seed, at, told)
+    assert rows > 60, rows
+    return f"{rows} rows"
+
+
+def try_a_folder_whose_head_is_odd():
+    """One that is cut off, is no head, tells rules that no server has, or stands behind other lines."""
+    head = "state 0 1 4096 256 256 1024 9 9\n"
+    for text, told, status in ((head, "differs 2\n", 1), (head[:-1], "", 0), ("state 0 1 4096 256 256\ngo\n", "bad line 1\n", 2),
+                               (f"tell 1 ok\n{head}go\n", "differs 1\n", 1), (head * 2, "differs 2\n", 1)):
+        with folder_of(text.encode()) as folder:
+            assert listed(folder)[1:] == (told, status), (text, listed(folder))
+    with folder_of(b"state 0 0 0 256 256 1024 9 9\ngo\n") as folder:
+        printed, told, status = listed(folder)
+        assert (printed, status) == ("", 2) and "--runs" in told, (told, status)
 
 
 # ---- a server ----

@@ -7,6 +7,7 @@ from report.page import page
 from report.session import follow
 from report.trace import read_trace
 from tests.report.browser import PROGRAM, Browser
+from tests.report.heads import UNLOCKED, WAITED_FOR, headed
 from tests.report.kit import *
 from tests.tries import TOP, run, text_of
 
@@ -87,6 +88,20 @@ def try_bars_and_hover(browser, written, _):
     browser.click("#list summary")
     same(browser.tell("document.querySelectorAll('#list tbody tr').length"), 6)
     assert "Orders 1 to 8" in browser.tell("document.getElementById('lanes-desc').textContent")
+
+
+@in_browser
+def try_a_page_behind_a_head(browser, written, _):
+    """What the head tells begins at the left edge, which is 0, before order 1."""
+    browser.open(written(headed(*WAITED_FOR, behind=UNLOCKED)))
+    same(says(browser), "Orders 0 to 1 of 1: 3 lanes in 1 file")
+    browser.tell("document.getElementById('lanes').scrollIntoView()")
+    same(tip(browser, "#chart rect[fill='url(#granted)']"),
+         "write lock: waited, then granted\na (node 2), byte 0\nowner 8, pid 12\nfrom before the trace to line 8, at least 1 order\nfor owner 7")
+    browser.click("td a[href='#at=0']")
+    same(browser.tell("document.querySelectorAll('#chart path[stroke-dasharray]').length"), 1)
+    browser.open(written(headed()))
+    same(says(browser), "Orders 0 to 0 of 0: 0 lanes in 0 files")
 
 
 @in_browser

@@ -1,5 +1,5 @@
-"""Tries programs/lockd_report: which bars and waits its model finds in traces that the built `lockd` makes, what it reads, and its page (try_report_page.py).
-`tries.py` says how it ends; the status is also 77 if there is no Chromium, which Debian has as `chromium`.
+"""Tries programs/lockd_report: which bars and waits its model finds in traces that the built `lockd` makes, what it reads, traces with a head (`heads.py`), and
+its page (`page.py`). `tries.py` says how it ends; the status is also 77 if there is no Chromium, which Debian has as `chromium`.
 
 tests/report/report.py --pictures makes the pictures of docs/ anew.
 """
@@ -17,6 +17,7 @@ from report.session import Session, follow
 from report.times import Clock, read_times
 from report.trace import BadLine, read_trace
 from tests.report.browser import PROGRAM
+from tests.report.heads import *
 from tests.report.kit import *
 from tests.report.page import *
 from tests.tries import run, text_of
@@ -234,7 +235,7 @@ def try_a_clock_with_times():
     """The axis is time, and a wait lasts from its request to its reply."""
     trace, session = followed(text_of("examples/a_lock_is_waited_for.txt"))
     text = times_of(trace, 250_000)
-    clock = Clock(trace.orders, *read_times(text + b"tell 9"))
+    clock = Clock(trace, *read_times(text + b"tell 9"))
     same(clock.places[:4], [250_000, 750_000, 1_000_000, 1_250_000])
     same([row[0] for row in table(session, "Longest waits", clock)], ["2.000", "1.750", "0.750"])
     same(table(session, "Most contended files", clock)[0][-1], "4.500")
@@ -242,9 +243,9 @@ def try_a_clock_with_times():
     same(found["places"][:3], [250, 500, 250])
     same(sorted(found["bars"]["took"]), [750, 1750, 2000])
     assert "3.250 ms" in page("", trace, session, clock)
-    same(Clock(trace.orders, *read_times(b"ask 77 5\n")).is_empty, True)
+    same(Clock(trace, *read_times(b"ask 77 5\n")).is_empty, True)
     # Without the last lines the orders that they are about stand where the one before does.
-    same(Clock(trace.orders, *read_times(b"".join(text.splitlines(True)[:4]))).places, [250_000] + 7 * [750_000])
+    same(Clock(trace, *read_times(b"".join(text.splitlines(True)[:4]))).places, [250_000] + 7 * [750_000])
 
 
 def try_the_first_window_has_locks_in_it():
@@ -257,7 +258,7 @@ def try_the_first_window_has_locks_in_it():
         for order in trace.orders:
             at += 1_000_000 * times(order.unique)
             lines.append(f"ask {order.unique} {at}\ntell {order.unique} {at}\n")
-        clock = Clock(trace.orders, *read_times("".join(lines).encode()))
+        clock = Clock(trace, *read_times("".join(lines).encode()))
         return [chart(trace, session, it)["window"] for it in (None, clock)]
 
     # A lock begins with every second order, so 1000 of them take 1998 milliseconds.
@@ -275,10 +276,10 @@ def try_the_first_window_has_locks_in_it():
 def try_times_of_a_unique_that_comes_again():
     """The FORGETs of one batch have one time. Requests that use a unique one after another have theirs."""
     trace = read_trace(b"ask 0 4 2 0 0 0 forget 1\nask 0 4 3 0 0 0 forget 1\nask 0 5 2 0 0 0 open\ntell 5 err 2\nask 0 5 2 0 0 0 open\ntell 5 err 2\n")
-    clock = Clock(trace.orders, *read_times(b"ask 4 100\nask 5 200\ntell 5 300\nask 5 400\ntell 5 500\n"))
+    clock = Clock(trace, *read_times(b"ask 4 100\nask 5 200\ntell 5 300\nask 5 400\ntell 5 500\n"))
     same(clock.places, [0, 0, 200, 400])
     # Several workers answer in any order. No order stands before an earlier one.
-    clock = Clock(trace.orders, *read_times(b"ask 4 100\nask 5 200\nask 5 250\ntell 5 500\ntell 5 300\n"))
+    clock = Clock(trace, *read_times(b"ask 4 100\nask 5 200\nask 5 250\ntell 5 500\ntell 5 300\n"))
     same(clock.places, [0, 0, 400, 400])
 
 
