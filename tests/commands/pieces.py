@@ -14,8 +14,11 @@ from tests.worked import CREATED, MADE, THREE, asks
 
 SIZES = 1, 2, 7, 31, 32, 33, 100, 1000
 INIT, INIT_REPLY = line_of(tries.INIT), line_of(tries.INIT_REPLY)
+# The head that goes on behind the worked trace.
+HEAD = "state 6 0 4096 256 256 1024 3 2\nnode 2 1 1 33188 0 0 61\nfile 1 2\nlock 2 7 0 9 1 11 0\ngo\n"
 # Each command, what it reads, and what it prints then.
-EXAMPLES = (["script"], asks(THREE), THREE), (["bytes"], INIT, INIT_REPLY), (["check", "--quiet"], THREE, "legal\nquiet\n")
+WRITERS = (["script"], asks(THREE), THREE), (["bytes"], INIT, INIT_REPLY), (["state"], THREE, HEAD), (["state"], HEAD, HEAD)
+EXAMPLES = *WRITERS, (["check", "--quiet"], THREE, "legal\nquiet\n"), (["check", "--quiet"], HEAD, "legal\nquiet\n")
 JUDGES = ["check"], ["check", "--quiet"], ["check", "--cut"]
 
 
@@ -56,6 +59,19 @@ def try_traces_in_pieces():
         ends(["check", "--cut"], THREE[:40], "begins\n", most=size)
 
 
+def try_heads_in_pieces():
+    """Whole, and cut off in each line of the head, whose end is missing then."""
+    for size in SIZES:
+        for words, text, printed in EXAMPLES:
+            if HEAD in (text, printed):
+                ends(words, text, printed, most=size)
+        for end in range(0, len(HEAD), 7):
+            lines = HEAD[:end].count("\n")
+            judged, listed = ("begins\n", ("", f"differs {lines + 1}\n", 1)) if lines else ("legal\n", ("[]\n",))
+            ends(["check", "--cut"], HEAD[:end], judged, most=size)
+            ends(["locks", "--json"], HEAD[:end], *listed, most=size)
+
+
 def try_lines_that_are_too_long():
     """A line of so many bytes more than a good beginning is bad, however it comes. One with no newline may be cut off."""
     lengths = [(it, size) for it in (677, 678, 679, 1500) for size in (1, 700)] + [(it, size) for it in (65_000, 65_536, 200_000) for size in (4096, 0)]
@@ -84,7 +100,7 @@ def reads_of(text):
 def try_each_read_of_a_command_fails():
     """That is told, whatever came before, and nothing is printed."""
     count = 0
-    for words, text in [*((words, text) for words, text, _ in EXAMPLES[:2]), *((words, it) for words in JUDGES for it in (THREE, "tell 1 ok\n", "x\n"))]:
+    for words, text in [*((words, text) for words, text, _ in WRITERS), *((words, it) for words in JUDGES for it in (THREE, HEAD, "tell 1 ok\n", "x\n"))]:
         for number in range(1, reads_of(text) + 1):
             ends(words, text, "", "read failed\n", most=8, reads=number, error=errno.EIO)
             count += 1
