@@ -10,7 +10,7 @@ use Rattle.std.specs.Option.{is_some}
 use Rattle.fl_desk.specs.Legal.{IsLegal, is_asked, orders_asked}
 use Rattle.fl_history.specs.declared.history.Line.{Line}
 use Rattle.fl_judge.specs.declared.replay.Replay.{Replay}
-use Rattle.fl_judge.specs.Details.{IsDueBehind, IsDifferenceAt}
+use Rattle.fl_judge.specs.Difference.{IsDueBehind, IsDifferenceAt}
 use Rattle.fl_judge.specs.Hearing.{Hearing}
 use Rattle.fl_judge.specs.Inside.Heard.{LeadsUpTo, DiffersIn, Stands, IsStoppedAt, IsHeard, IsNoted}
 use Rattle.fl_judge.proofs.Heads.{GoesByParts, inside, not_whole}

@@ -1,11 +1,7 @@
 pub mod Calm
 pub mod Circles
 pub mod Differences
-pub mod Following
 pub mod Heads
-pub mod Hearing
-pub mod Listening
-pub mod Newlines
 pub mod Places
 pub mod Quiets
 pub mod Replays

@@ -1,6 +1,4 @@
-pub mod Audit
-pub mod Details
-pub mod First
+pub mod Difference
 pub mod Hearing
 pub mod Inside
 pub mod Present

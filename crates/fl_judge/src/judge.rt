@@ -3,14 +3,14 @@
 ghost use Rattle.std.specs.Prelude.{◌≡◌, ◌↔◌, ◌<◌, ◌≤◌, ◌^◌, ◌++◌, ◌∷◌, [], true, length, IfOk, IfSome, IsSome};
 ghost use Rattle.fl_desk.specs.Legal.{orders_asked};
 ghost use Rattle.fl_judge.specs.Verdicts.{IsBeginning, IsVerdict};
-ghost use Rattle.fl_judge.specs.Details.{IsDifferenceOf};
+ghost use Rattle.fl_judge.specs.Difference.{IsDifferenceOf};
 ghost use Rattle.fl_judge.specs.Hearing.{unheard};
 ghost use Rattle.fl_history.specs.Place.{place_of};
 ghost use Rattle.fl_desk.specs.Kept.{IsKept};
 ghost use Rattle.fl_judge.specs.Present.{HasPresent, IsPresent, told_lines};
 ghost use Rattle.fl_judge.specs.Quiet.{IsQuiet, OpensCalm, HasNoCircles};
 
-use crate::details::Difference;
+use crate::difference::Difference;
 use crate::laws::quiet_histories_have_no_circle;
 use crate::replay::Replay;
 use crate::resumed::{Missing, Resumed};

@@ -1,10 +1,10 @@
 -- What an audit says, as `check` says it.
 use Rattle.std.proofs.Common.{◌≡◌, ◌↔◌, ℕ, Bool, true, false, Option, List, [], refl, sym, subst, append-nil}
 use Rattle.std.specs.Io.KnownBytes.{Appends}
-use Rattle.fl_judge.specs.Audit.{IsFinding, IsAudited}
-use Rattle.fl_judge.specs.declared.finding.Audited.{Audited}
-use Rattle.fl_judge.specs.declared.finding.Finding.{Finding}
-use Rattle.fl_judge.specs.declared.finding.Finding.TheVariants.{Legal, Begins, Differs}
+use Rattle.fl_audit.specs.Audit.{IsFinding, IsAudited}
+use Rattle.fl_audit.specs.declared.finding.Audited.{Audited}
+use Rattle.fl_audit.specs.declared.finding.Finding.{Finding}
+use Rattle.fl_audit.specs.declared.finding.Finding.TheVariants.{Legal, Begins, Differs}
 use Rattle.fl_desk.specs.Legal.{IsLegal}
 use Rattle.fl_judge.specs.Verdicts.{IsBeginning}
 use Rattle.fl_history.specs.declared.history.Line.{Line}

@@ -4,7 +4,7 @@ use Rattle.std.specs.Fmt.{decimal}
 use Rattle.fl_core.specs.State.{Snapshot}
 use Rattle.fl_judge.specs.Verdicts.{DiffersAt}
 use Rattle.fl_history.specs.declared.history.Line.{Line}
-use Rattle.fl_judge.specs.First.{AreFirstLines, IsSoOfAll}
+use Rattle.fl_audit.specs.First.{AreFirstLines, IsSoOfAll}
 use Rattle.fl_judge.specs.Present.{HasPresent, IsPresent}
 use Rattle.fl_locks.specs.LockRows.{rows_of}
 use Rattle.fl_waiting.specs.declared.rules.Rules.{Rules}

@@ -14,7 +14,7 @@ use Rattle.fl_desk.specs.Replay.{state_after}
 use Rattle.fl_history.specs.declared.history.Line.{Line}
 use Rattle.fl_history.specs.declared.history.Line.TheVariants as line
 use Rattle.fl_history.specs.Place.{place_of}
-use Rattle.fl_judge.specs.First.{IsSoOfAll}
+use Rattle.fl_audit.specs.First.{IsSoOfAll}
 use Rattle.fl_judge.specs.Present.{IsPresent, told_lines}
 use Rattle.fl_judge.specs.Verdicts.{DiffersAt}
 use Rattle.fl_order.specs.declared.state_part.Head.{Head}

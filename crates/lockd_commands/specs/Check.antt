@@ -4,9 +4,9 @@ use Rattle.std.specs.Prelude.{◌≡◌, ◌↔◌, ℕ, Bool, true, false, List
 use Rattle.std.specs.Fmt.{decimal}
 use Rattle.std.specs.Io.KnownBytes.{Appends}
 use Rattle.fl_trace.specs.Text.{text_of, Fits}
-use Rattle.fl_judge.specs.Audit.{judged_part, IsFinding}
-use Rattle.fl_judge.specs.declared.finding.Finding.{Finding}
-use Rattle.fl_judge.specs.declared.finding.Finding.TheVariants.{Legal, Begins, Differs}
+use Rattle.fl_audit.specs.Audit.{judged_part, IsFinding}
+use Rattle.fl_audit.specs.declared.finding.Finding.{Finding}
+use Rattle.fl_audit.specs.declared.finding.Finding.TheVariants.{Legal, Begins, Differs}
 use Rattle.fl_history.specs.declared.history.Line.{Line}
 use Rattle.fl_judge.specs.Quiet.{IsQuiet}
 use Rattle.fl_waiting.specs.declared.rules.Rules.{Rules}

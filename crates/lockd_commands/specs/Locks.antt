@@ -9,7 +9,7 @@ use Rattle.std.specs.Io.KnownBytes.{Appends}
 use Rattle.fl_core.specs.State.{Snapshot}
 use Rattle.fl_judge.specs.Verdicts.{DiffersAt}
 use Rattle.fl_history.specs.declared.history.Line.{Line}
-use Rattle.fl_judge.specs.First.{AreFirstLines, IsSoOfAll}
+use Rattle.fl_audit.specs.First.{AreFirstLines, IsSoOfAll}
 use Rattle.fl_judge.specs.Present.{HasPresent, IsPresent}
 use Rattle.fl_locks.specs.Json.{json_text}
 use Rattle.fl_locks.specs.LockRows.{linked_name, rows_of}

@@ -2,8 +2,8 @@
 
 ghost use Rattle.std.specs.Prelude.{◌≡◌, ◌≢◌, ◌⊎◌, ℕ, false, string_bytes, Err, IfSome, IfOk, OnOk, IfErr};
 ghost use Rattle.std.specs.Io.KnownBytes.{Keeps};
-ghost use Rattle.fl_judge.specs.Audit.{judged_part};
-ghost use Rattle.fl_judge.specs.declared.finding.Finding.TheVariants as said;
+ghost use Rattle.fl_audit.specs.Audit.{judged_part};
+ghost use Rattle.fl_audit.specs.declared.finding.Finding.TheVariants as said;
 ghost use Rattle.fl_trace.specs.Text.{BreaksAt, LineFits};
 ghost use Rattle.lockd_commands.specs.Check.{answer_text, IsJudged, IsJudgedInPart};
 ghost use Rattle.lockd_commands.specs.Check.Inside.{quiet_told, audit_fault};
@@ -11,8 +11,8 @@ ghost use Rattle.lockd_commands.specs.Faults.{IsOfText};
 ghost use Rattle.lockd_faults.specs.Faults.{IsTold};
 ghost use Rattle.lockd_faults.specs.declared.fault.CommandFault.{CommandFault};
 
+use fl_audit::{AuditFault, Audited, Details, Finding, audit};
 use fl_core::Rules;
-use fl_judge::{AuditFault, Audited, Details, Finding, audit};
 use lockd_faults::{CommandFault, Status, end, write_all};
 use std::alloc::Global;
 use std::io::{Read, Write};

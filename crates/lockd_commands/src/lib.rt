@@ -29,8 +29,8 @@ mod verbose;
 
 pub use bytes::bytes_on;
 pub use check::{CheckOptions, check_on};
+pub use fl_audit::Details;
 pub use fl_core::Rules;
-pub use fl_judge::Details;
 pub use fl_trace::LINE_ROOM;
 pub use kept::Kept;
 pub use lockd_faults::{CommandFault, Noting, Status, end};

@@ -4,7 +4,7 @@ ghost use Rattle.std.specs.Prelude.{◌≡◌, ◌≤◌, ◌<◌, ◌+◌, ◌�
 ghost use Rattle.std.specs.Prelude.{IsNone};
 ghost use Rattle.std.specs.Io.KnownBytes.{Consumes, IsAtEnd};
 ghost use Rattle.fl_desk.specs.Heads.{NamesRules};
-ghost use Rattle.fl_judge.specs.Audit.{has_newline};
+ghost use Rattle.fl_audit.specs.Audit.{has_newline};
 ghost use Rattle.fl_waiting.specs.declared.rules.Rules.{Rules as Limits};
 ghost use Rattle.lockd_commands.specs.Opening.{AreNamed};
 ghost use Rattle.lockd_commands.specs.Opening.Inside.{IsEnough, IsHeadUnder};

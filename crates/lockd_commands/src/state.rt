@@ -4,7 +4,7 @@ ghost use Rattle.std.specs.Prelude.{◌≡◌, ◌≢◌, ◌++◌, ◌∷◌, [
 ghost use Rattle.std.specs.Fmt.{decimal};
 ghost use Rattle.std.specs.Io.KnownBytes.{Keeps};
 ghost use Rattle.fl_desk.specs.Legal.{IsLegal};
-ghost use Rattle.fl_judge.specs.First.{IsSoOfAll};
+ghost use Rattle.fl_audit.specs.First.{IsSoOfAll};
 ghost use Rattle.fl_desk.specs.Heads.{head_lines};
 ghost use Rattle.fl_history.specs.declared.history.Line.TheVariants as line;
 ghost use Rattle.fl_trace.specs.Text.{line_text, text_of, BreaksAt, LineFits};
@@ -15,12 +15,13 @@ ghost use Rattle.lockd_faults.specs.Faults.{IsTold as IsFaultTold};
 ghost use Rattle.lockd_faults.specs.declared.fault.CommandFault.{CommandFault};
 
 use crate::check::fault_of;
+use fl_audit::{Details, hear_whole};
 use fl_core::Rules;
 use fl_desk::laws::a_legal_history_goes_on_by_orders;
 use fl_desk::{ToldHead, head_of};
 use fl_history::Line;
 use fl_judge::laws::a_legal_history_has_a_present;
-use fl_judge::{Details, Judge, Verdict, hear_whole};
+use fl_judge::{Judge, Verdict};
 use fl_order::StateLine;
 use fl_trace::{LINE_ROOM, push_line};
 use lockd_faults::{CommandFault, Status, end, write_all};

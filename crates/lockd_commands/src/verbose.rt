@@ -1,8 +1,9 @@
 //! What `--verbose` adds of a command that read lines.
 
+use fl_audit::Details;
 use fl_core::Rules;
 use fl_history::Line;
-use fl_judge::{Details, Difference};
+use fl_judge::Difference;
 use fl_trace::{LINE_ROOM, push_line};
 use lockd_faults::{CommandFault, Status, Why, split_line, why_bad, why_bad_hex, why_bad_order};
 use std::alloc::Global;

@@ -2,10 +2,10 @@
 use Rattle.std.proofs.Common.{◌≡◌, ◌∙◌, ℕ, Bool, true, false, List, [], Option, None, Some, refl, sym, subst}
 use Rattle.std.specs.Prelude.{◌≢◌}
 use Rattle.std.specs.Io.KnownBytes.{Keeps}
-use Rattle.fl_judge.specs.Audit.{whole_lines}
-use Rattle.fl_judge.specs.First.{IsSoOfAll}
-use Rattle.fl_judge.specs.declared.finding.AuditFault.{AuditFault}
-use Rattle.fl_judge.specs.declared.finding.AuditFault.TheVariants as reading
+use Rattle.fl_audit.specs.Audit.{whole_lines}
+use Rattle.fl_audit.specs.First.{IsSoOfAll}
+use Rattle.fl_audit.specs.declared.finding.AuditFault.{AuditFault}
+use Rattle.fl_audit.specs.declared.finding.AuditFault.TheVariants as reading
 use Rattle.fl_trace.specs.Text.{BreaksAt, LineFits}
 use Rattle.fl_waiting.specs.declared.rules.Rules.{Rules}
 use Rattle.fl_history.specs.declared.history.Line.{Line}

@@ -11,9 +11,9 @@ use Rattle.std.specs.List.{fold}
 use Rattle.std.specs.Str.Iter.{LacksByte}
 use mathlib.Core.List.{IsPrefix}
 use Rattle.fl_history.specs.declared.history.Line.{Line}
-use Rattle.fl_judge.specs.Audit.{has_newline, whole_lines}
+use Rattle.fl_audit.specs.Audit.{has_newline, whole_lines}
 use Rattle.fl_history.specs.declared.history.Line.TheVariants as line
-use Rattle.fl_judge.specs.First.{AreWholeLines}
+use Rattle.fl_audit.specs.First.{AreWholeLines}
 use Rattle.fl_history.specs.Place.{nowhere, with_place}
 use Rattle.fl_history.specs.declared.place.Place.{Place}
 use Rattle.fl_desk.specs.Legal.{HasNoHead, IsLegal, IsLegalFromNothing, is_state}

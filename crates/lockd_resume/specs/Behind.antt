@@ -5,8 +5,8 @@ use Rattle.fl_history.specs.Place.{place_of}
 use Rattle.fl_judge.specs.Present.{HasPresent}
 use Rattle.fl_judge.specs.Verdicts.{DiffersAt}
 use Rattle.fl_history.specs.declared.history.Line.{Line}
-use Rattle.fl_judge.specs.Audit.{whole_lines}
-use Rattle.fl_judge.specs.First.{AreWholeLines}
+use Rattle.fl_audit.specs.Audit.{whole_lines}
+use Rattle.fl_audit.specs.First.{AreWholeLines}
 use Rattle.fl_session.specs.Served.{IsServedBehind}
 use Rattle.fl_session.specs.declared.done.Done.{Done}
 use Rattle.fl_trace.specs.Text.{BreaksAt, LineFits}

@@ -3,8 +3,8 @@ use Rattle.std.specs.Prelude.{◌≡◌, ℕ, List}
 use Rattle.fl_judge.specs.Present.{HasPresent}
 use Rattle.fl_judge.specs.Verdicts.{DiffersAt}
 use Rattle.fl_history.specs.declared.history.Line.{Line}
-use Rattle.fl_judge.specs.declared.finding.AuditFault.{AuditFault}
-use Rattle.fl_judge.specs.declared.finding.AuditFault.TheVariants as reading
+use Rattle.fl_audit.specs.declared.finding.AuditFault.{AuditFault}
+use Rattle.fl_audit.specs.declared.finding.AuditFault.TheVariants as reading
 use Rattle.fl_waiting.specs.declared.rules.Rules.{Rules}
 use Rattle.lockd_faults.specs.declared.fault.CommandFault.{CommandFault}
 use Rattle.lockd_faults.specs.declared.fault.CommandFault.TheVariants as command

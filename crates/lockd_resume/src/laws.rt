@@ -6,7 +6,7 @@ ghost use mathlib.Core.List.{IsPrefix};
 ghost use Rattle.fl_desk.specs.Legal.{IsLegal, IsLegalFromNothing};
 ghost use Rattle.fl_history.specs.declared.history.Line.{Line};
 ghost use Rattle.fl_history.specs.declared.history.Line.TheVariants as line;
-ghost use Rattle.fl_judge.specs.First.{AreWholeLines};
+ghost use Rattle.fl_audit.specs.First.{AreWholeLines};
 ghost use Rattle.fl_order.specs.declared.order.Order.{Order};
 ghost use Rattle.fl_order.specs.declared.state_part.StateLine.{StateLine};
 ghost use Rattle.fl_order.specs.declared.told.Told.{Told};

@@ -1,6 +1,6 @@
 //! What a resumed server tells of itself, beside what each server does.
 
-use fl_judge::Details;
+use fl_audit::Details;
 use lockd_faults::Status;
 use lockd_streams::Observer;
 use std::alloc::Global;

@@ -1,9 +1,9 @@
 -- What is told of an audit.
 use Rattle.std.specs.Prelude.{Bool, true, Option, Some, None}
-use Rattle.fl_judge.specs.declared.finding.AuditFault.{AuditFault}
-use Rattle.fl_judge.specs.declared.finding.AuditFault.TheVariants as audits
-use Rattle.fl_judge.specs.declared.finding.Finding.{Finding}
-use Rattle.fl_judge.specs.declared.finding.Finding.TheVariants.{Legal}
+use Rattle.fl_audit.specs.declared.finding.AuditFault.{AuditFault}
+use Rattle.fl_audit.specs.declared.finding.AuditFault.TheVariants as audits
+use Rattle.fl_audit.specs.declared.finding.Finding.{Finding}
+use Rattle.fl_audit.specs.declared.finding.Finding.TheVariants.{Legal}
 use Rattle.lockd_faults.specs.declared.fault.CommandFault.{CommandFault}
 use Rattle.lockd_faults.specs.declared.fault.CommandFault.TheVariants as command
 

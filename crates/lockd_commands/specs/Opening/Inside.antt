@@ -4,7 +4,7 @@ use Rattle.std.specs.Io.KnownBytes.{IsAtEnd}
 use Rattle.fl_desk.specs.Heads.{NamesRules}
 use Rattle.fl_history.specs.declared.history.Line.{Line}
 use Rattle.fl_history.specs.declared.history.Line.TheVariants as line
-use Rattle.fl_judge.specs.Audit.{has_newline}
+use Rattle.fl_audit.specs.Audit.{has_newline}
 use Rattle.fl_order.specs.declared.state_part.StateLine.TheVariants as state
 use Rattle.fl_waiting.specs.declared.rules.Rules.{Rules}
 

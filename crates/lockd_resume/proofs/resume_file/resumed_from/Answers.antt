@@ -1,6 +1,6 @@
 use Rattle.std.proofs.Common.{rules, sym, subst}
-use Rattle.fl_judge.specs.First.{IsSoOfAll}
-use Rattle.fl_judge.specs.declared.finding.AuditFault.TheVariants.{NoMemory}
+use Rattle.fl_audit.specs.First.{IsSoOfAll}
+use Rattle.fl_audit.specs.declared.finding.AuditFault.TheVariants.{NoMemory}
 use Rattle.lockd_resume.specs.Behind.{FileSays}
 use Rattle.lockd_resume.proofs.BehindLemmas.{unread}
 use Rattle.lockd_resume.proofs.resume_file.resumed_from.Goals as goal

@@ -1,0 +1,4 @@
+pub mod Following
+pub mod Hearing
+pub mod Listening
+pub mod Newlines

@@ -1,0 +1,3 @@
+-- No public clause cites these modules.
+pub mod Hearing
+pub mod Keeping

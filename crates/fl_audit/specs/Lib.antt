@@ -1,0 +1,4 @@
+pub mod Audit
+pub mod Details
+pub mod First
+pub mod Inside

@@ -1,9 +1,0 @@
-use Rattle.std.proofs.Common.{length}
-use Rattle.fl_judge.proofs.Hearing.{IsHearing}
-use Rattle.fl_judge.proofs.lines.hear_lines.Given as goal
-
-abbrev pub invariant-loop-most : goal.invariant-loop-most
-invariant-loop-most l = IsHearing l.most l.initial.judge l.judge l.text l.rest
-
-abbrev pub decreases-loop-most : goal.decreases-loop-most
-decreases-loop-most l = length l.rest
