@@ -32,8 +32,8 @@ impl Slot {
 }
 
 impl Dir {
-    // The node of a number other than the root's.
-    pub(crate) fn node_at(&self, number: u64) -> Option<&Node>
+    /// The node of a number other than the root's.
+    pub fn node_at(&self, number: u64) -> Option<&Node>
         ensures { option_copied result ≡ map.get self.now.nodes number }
     {
         match self.nodes.get(number) {

@@ -33,3 +33,4 @@ pub mod ContenderNearest
 pub mod ContenderConflicts
 pub mod ContenderMarks
 pub mod Setting
+pub mod Covering

@@ -63,7 +63,7 @@ module _ {chains : ℕ} (v : LockRows) (table : IsLockTable v (limit_of v) chain
     index = ap (λ (k : Cursor). k.index) at
 
     module _ (has : has_row key (rows v (home chains key.node)) ≡ true) where
-      spans_here : spans_at v row ≡ spans_of key (rows v (home chains key.node))
+      pub spans_here : spans_at v row ≡ spans_of key (rows v (home chains key.node))
       spans_here = (λ i. runs_at (rows v (chain i)) (index i)) ∙ row_spans key (rows v (home chains key.node)) (table.kept (home chains key.node)).in_order has
 
       pub are_here : AreSpans (spans_at v row)

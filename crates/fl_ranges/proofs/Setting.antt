@@ -15,11 +15,11 @@ use Rattle.fl_marks.specs.Conflict.{are_of_two_owners, conflicts, IsLawful}
 use Rattle.fl_marks.specs.Marking.{class_number, Marking, Spot, spot_cmp, marking_of, stroked, covers}
 use Rattle.fl_marks.specs.Runs.{runs}
 use Rattle.fl_ranges.specs.Inside.RunList.{has_spot, run_at, held_at, AreApart, IsWhole, AreRuns}
-use Rattle.fl_ranges.specs.Setting.{meant, set_all, CanBeSet}
+use Rattle.fl_ranges.specs.Setting.{meant, set_all, CanBeSet, IsOfRun}
 use Rattle.fl_ranges.proofs.ConflictWords.{conflict_words}
 use Rattle.fl_ranges.proofs.Counting.{get-runs, runs_length}
 use Rattle.fl_ranges.proofs.Markings.{spots_total, exact_spots, get-stroked}
-use Rattle.fl_ranges.proofs.RunLists.{spot_of, each_found, each_ordered}
+use Rattle.fl_ranges.proofs.RunLists.{at_spot, spot_of, each_found, each_ordered}
 
 mark_in : Run → Mark
 mark_in r = r.mark
@@ -133,6 +133,29 @@ own_marks rs front rest r byte good split from upto =
     (each_found all (subst AreRuns split good).apart) q (spot_of r q refl from upto) in
     ap (λ (l : List Run). get (marking_of (map meant l)) q) split ∙ get-runs all q ∙ ap (option_map (λ (r : Run). r.mark)) own
 
+-- ---- a spot with a mark
+
+run_among : (rs : List Run) (q : Spot) (mark : Mark) → held_at rs q ≡ Some mark → IsOfRun rs q mark
+run_among [] q mark held = absurd (none-some mark held)
+run_among (r ∷ rs) q mark held = go (run_among rs q mark) (has_spot q r) refl held
+  where
+    go : (held_at rs q ≡ Some mark → IsOfRun rs q mark) → (b : Bool) → has_spot q r ≡ b → option_map (λ (r : Run). r.mark) (cond b (Some r) (run_at rs q)) ≡ Some mark → IsOfRun (r ∷ rs) q mark
+    go later true is h =
+        let at = at_spot r q is in
+        record { front = []; run = r; rest = rs; among = refl; key_is = at.key; from = at.from; upto = at.upto; mark_is = cc h }
+    go later false is h =
+        let of = later h in
+        record {
+          front = r ∷ of.front;
+          run = of.run;
+          rest = of.rest;
+          among = ap (λ (l : List Run). r ∷ l) of.among;
+          key_is = of.key_is;
+          from = of.from;
+          upto = of.upto;
+          mark_is = of.mark_is;
+        }
+
 -- ---- the runs of a table
 
 pub can_be_set : (limit : ℕ) (m : Marking) (rs : List Run) → AreRuns rs → marking_of (map meant rs) ≡ m → length rs ≤ limit → CanBeSet limit m rs
@@ -140,6 +163,7 @@ can_be_set limit m rs good is few = record {
   marking = set_marking rs good.apart ∙ is;
   once = sym (runs_length rs good) ∙ ap runs is;
   own = λ front rest r byte split from upto. ap (λ (m : Marking). get m (r.key, byte)) (sym is) ∙ own_marks rs front rest r byte good split from upto;
+  all = λ spot mark has. run_among rs spot mark (sym (get-runs rs spot) ∙ ap (λ (m : Marking). get m spot) is ∙ has);
   ranges = λ front rest r split.
       within r.start r.end (all_at (λ (r : Run). r.start ≤ r.end) front rest r (subst (AllByRecursion (λ (r : Run). r.start ≤ r.end)) split (each_ordered rs good.apart)))
       (all_at (IsWhole (held_at rs)) front rest r (subst (AllByRecursion (IsWhole (held_at rs))) split good.whole)).in_range;

@@ -19,20 +19,20 @@ use Rattle.fl_ranges.proofs.Each.{all_weaker, all_both}
 
 -- ---- spans
 
-too_early : (from to b : ℕ) → b < from → (nat_le from b && nat_le b to) ≡ false
+pub too_early : (from to b : ℕ) → b < from → (nat_le from b && nat_le b to) ≡ false
 too_early from to b less = grind (arith, nat_tests)
 
-too_late : (from to b : ℕ) → to < b → (nat_le from b && nat_le b to) ≡ false
+pub too_late : (from to b : ℕ) → to < b → (nat_le from b && nat_le b to) ≡ false
 too_late from to b less = grind (arith, nat_tests)
 
 pub in_time : (from to b : ℕ) → from ≤ b → b ≤ to → (nat_le from b && nat_le b to) ≡ true
 in_time from to b begins ends = grind (arith, nat_tests)
 
-passed_over : (s : Span Mark) (ss : List (Span Mark)) (b : ℕ) → overlaps b b s ≡ false → mark_at (s ∷ ss) b ≡ mark_at ss b
+pub passed_over : (s : Span Mark) (ss : List (Span Mark)) (b : ℕ) → overlaps b b s ≡ false → mark_at (s ∷ ss) b ≡ mark_at ss b
 passed_over s ss b none = ap (λ (x : Bool). cond x (Some s.mark) (mark_at ss b)) none
 
 -- up to the end of a span none of the later ones has a byte
-later_none : (s : Span Mark) (ss : List (Span Mark)) → AreSpans (s ∷ ss) → (b : ℕ) → b ≤ s.end → mark_at ss b ≡ None
+pub later_none : (s : Span Mark) (ss : List (Span Mark)) → AreSpans (s ∷ ss) → (b : ℕ) → b ≤ s.end → mark_at ss b ≡ None
 later_none s [] are b upto = refl
 later_none s (t ∷ ts) are b upto =
     let apart = are.1.apart in

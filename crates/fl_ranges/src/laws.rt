@@ -20,6 +20,11 @@ pub fn last_stroke_counts()
     ensures { (strokes : List Stroke) (spot : Spot) → get (marking_of strokes) spot ≡ mark_at strokes spot }
 {}
 
+/// Markings that give each byte of each key the same mark are one.
+pub fn marks_tell_markings_apart()
+    ensures { (m n : Marking) → ((spot : Spot) → get m spot ≡ get n spot) → m ≡ n }
+{}
+
 /// A request conflicts exactly if another owner has a mark of the class on the node, at a byte of the
 /// range, and one of the two kinds is write.
 pub fn conflict_is_another_owners_mark()

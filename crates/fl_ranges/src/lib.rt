@@ -16,6 +16,7 @@ mod conflict;
 mod contenders;
 mod find_row;
 mod held_runs;
+mod holding;
 pub mod laws;
 mod owners;
 mod row_change;

@@ -1,10 +1,12 @@
 //! The table of locks.
-ghost use Rattle.std.specs.Prelude.{◌≡◌, ◌≢◌, ◌≤◌, ◌<◌, ◌↔◌, ℕ, false, Option, Some, None, IfOk, IsErr, OnOk, OnErr};
+ghost use Rattle.std.specs.Prelude.{◌≡◌, ◌≢◌, ◌≤◌, ◌<◌, ◌↔◌, ℕ, true, false, Option, Some, None, IfOk, IsErr, OnOk};
+ghost use Rattle.std.specs.Prelude.{OnErr};
 ghost use Rattle.std.specs.FinMap as map;
 ghost use Rattle.std.specs.List.{AllByRecursion};
 ghost use Rattle.fl_spans.specs.Rows.{rows, limit_of, chain_count, AreLinked};
 
 use crate::conflict::some_conflicts;
+use crate::holding::all_marked;
 use crate::row_change;
 use fl_arena::Place;
 use fl_marks::{Class, Key, Kind, LAST_BYTE, Mark, Range};
@@ -166,6 +168,14 @@ impl Table {
         ensures { result ≡ conflicts self.now.marking key.now range.now.start range.now.end kind }
     {
         some_conflicts(&self.rows, key, range, kind)
+    }
+
+    /// Whether all bytes of the range have this mark of the key.
+    pub fn all_marked(&self, key: &Key, range: &Range, mark: Mark) -> bool
+        ensures { (result ≡ true) ↔ ((byte : ℕ) → range.now.start ≤ byte → byte ≤ range.now.end →
+            map.get self.now.marking (key.now, byte) ≡ Some mark) }
+    {
+        all_marked(&self.rows, key, range, mark)
     }
 
     /// The rows that hold the locks, each on the chain of its node. Their `slot_place` and `head_place` tell exactly

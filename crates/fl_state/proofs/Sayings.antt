@@ -15,7 +15,7 @@ use Rattle.fl_state.specs.Inside.Saying.{all_items, node_part, file_part, wait_p
 use Rattle.fl_state.specs.Parts.{part_of, class_of, kind_of}
 use Rattle.fl_waiting.specs.declared.claim.Claim.{Claim}
 
-flat_joined : {X : Type 0} (cs : List (List (Entry (ℕ × X)))) → flat_map (λ es. map (λ (e : Entry (ℕ × X)). e.item) es) cs ≡ joined cs
+pub flat_joined : {X : Type 0} (cs : List (List (Entry (ℕ × X)))) → flat_map (λ es. map (λ (e : Entry (ℕ × X)). e.item) es) cs ≡ joined cs
 flat_joined [] = refl
 flat_joined (es ∷ cs) = ap (λ l. map (λ (e : Entry _). e.item) es ++ l) (flat_joined cs)
 
@@ -33,11 +33,11 @@ files_each (e ∷ es) = ap (λ l. a_file e.0 e.1 ∷ l) (files_each es)
 pub files_said : (a : Chains (ℕ × ℕ)) → map part_of (map file_part (all_items a)) ≡ map (λ (e : ℕ × ℕ). a_file e.0 e.1) (joined a.chains)
 files_said a = ap (λ es. map part_of (map file_part es)) (flat_joined a.chains) ∙ files_each (joined a.chains)
 
-same_class : (c : Class) → class_of (is_flock c) ≡ c
+pub same_class : (c : Class) → class_of (is_flock c) ≡ c
 same_class Record = refl
 same_class Flock = refl
 
-same_kind : (k : Kind) → kind_of (is_write k) ≡ k
+pub same_kind : (k : Kind) → kind_of (is_write k) ≡ k
 same_kind Read = refl
 same_kind Write = refl
 

@@ -10,13 +10,13 @@ use Rattle.fl_spans.specs.Rows.{Row, keys, runs_at}
 use Rattle.fl_spans.specs.declared.span.Span.{Span}
 
 module _ {X : Type 0} where
-  past_end : (xs : List X) (j : ℕ) → slice_get xs j ≡ None → drop j xs ≡ []
+  pub past_end : (xs : List X) (j : ℕ) → slice_get xs j ≡ None → drop j xs ≡ []
   past_end [] zero none = refl
   past_end [] (suc j) none = refl
   past_end (x ∷ xs) zero none = absurd (cc none)
   past_end (x ∷ xs) (suc j) none = past_end xs j none
 
-  drop_here : (xs : List X) (j : ℕ) (x : X) → slice_get xs j ≡ Some x → drop j xs ≡ x ∷ drop (j + 1) xs
+  pub drop_here : (xs : List X) (j : ℕ) (x : X) → slice_get xs j ≡ Some x → drop j xs ≡ x ∷ drop (j + 1) xs
   drop_here [] j x found = absurd (none-some x found)
   drop_here (y ∷ xs) zero x found = let is : y ≡ x = cc found in ap (λ z. z ∷ xs) is
   drop_here (y ∷ xs) (suc j) x found =

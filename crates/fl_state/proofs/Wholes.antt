@@ -93,7 +93,7 @@ module _ (rules : Rules) (node fh : ℕ) where
 -- ---- each fits
 
 -- an entry of a map stands there
-own_entry : {X : Type 0} (m : FinMap nat_cmp X) (front rest : List (ℕ × X)) (k : ℕ) (x : X) → AreEntries (front ++ (k, x) ∷ rest) m → finite.get m k ≡ Some x
+pub own_entry : {X : Type 0} (m : FinMap nat_cmp X) (front rest : List (ℕ × X)) (k : ℕ) (x : X) → AreEntries (front ++ (k, x) ∷ rest) m → finite.get m k ≡ Some x
 own_entry m front rest k x list =
     list.are k ∙ find_after front ((k, x) ∷ rest) k ∙ ap (λ o. option_or o (finite.find nat_cmp k ((k, x) ∷ rest))) (fresh front rest k x list.apart)
     ∙ ap (λ b. cond b (Some x) (finite.find nat_cmp k rest)) (own_key k)
@@ -122,7 +122,7 @@ behind_at : (P : List Request → Request → Type 0) (older front rest : List R
 behind_at P older [] rest r all = subst (λ l. P l r) (sym (append-nil older)) all.0
 behind_at P older (x ∷ front) rest r all = subst (λ l. P l r) (append_assoc older (x ∷ []) front) (behind_at P (older ++ x ∷ []) front rest r all.1)
 
-all_at : (P : Request → Type 0) (front rest : List Request) (r : Request) → AllByRecursion P (front ++ r ∷ rest) → P r
+pub all_at : {A : Type 0} (P : A → Type 0) (front rest : List A) (r : A) → AllByRecursion P (front ++ r ∷ rest) → P r
 all_at P [] rest r all = all.0
 all_at P (x ∷ front) rest r all = all_at P front rest r all.1
 

@@ -1,2 +1,3 @@
--- What the walks tell. No public clause cites these modules.
+-- What the walks tell, and what is sought. No public clause cites these modules.
 pub mod Saying
+pub mod Seeking

@@ -1,3 +1,4 @@
 pub mod Inside
 pub mod Parts
+pub mod Same
 pub mod Telling

@@ -84,13 +84,13 @@ pub fn restore_all(core: &mut Core, parts: &[StatePart]) -> bool
     true
 }
 
-fn class_of(flock: bool) -> Class
+pub(crate) fn class_of(flock: bool) -> Class
     ensures { result ≡ class_of flock }
 {
     if flock { Class::Flock } else { Class::Record }
 }
 
-fn kind_of(write: bool) -> Kind
+pub(crate) fn kind_of(write: bool) -> Kind
     ensures { result ≡ kind_of write }
 {
     if write { Kind::Write } else { Kind::Read }

@@ -14,6 +14,7 @@ use fl_spans::{Cursor, Rows, Span};
 /// Tells the runs of all rows, chain after chain. It ends once the sink takes no more.
 pub(crate) fn tell_locks<S: StateSink>(locks: &Rows<Key, Span<Mark>>, sink: &mut S) -> bool
     ensures infallible { IsTrue S.infallible → result ≡ true }
+    ensures kept { S.kept sink.new ≡ S.kept sink.old }
     ensures told { result ≡ true → S.told sink.new ≡ S.told sink.old ++ map lock_part (table_runs locks.now) }
 {
     for chain in 0..locks.chain_count() {
@@ -28,6 +29,7 @@ pub(crate) fn tell_locks<S: StateSink>(locks: &Rows<Key, Span<Mark>>, sink: &mut
 fn tell_rows<S: StateSink>(locks: &Rows<Key, Span<Mark>>, chain: usize, sink: &mut S) -> bool
     requires { chain < chain_count locks.now }
     ensures infallible { IsTrue S.infallible → result ≡ true }
+    ensures kept { S.kept sink.new ≡ S.kept sink.old }
     ensures told { result ≡ true → S.told sink.new ≡ S.told sink.old ++ map lock_part (runs_in (rows locks.now chain)) }
 {
     let mut row = locks.first_row(chain);
@@ -50,6 +52,7 @@ fn tell_row<S: StateSink>(
     requires row { IsRow locks.now row.now }
     requires at_row { IsSome row.now.slot }
     ensures infallible { IsTrue S.infallible → result ≡ true }
+    ensures kept { S.kept sink.new ≡ S.kept sink.old }
     ensures told { result ≡ true →
         S.told sink.new ≡ S.told sink.old ++ map lock_part (map (run_of key.now) (spans_at locks.now row.now)) }
 {

@@ -13,9 +13,16 @@ pub trait StateSink {
     /// Whether it takes each part.
     ghost infallible: { Bool } = { false };
 
+    /// What no part changes.
+    ghost Kept: { Type 0 } = { Unit {0} };
+
+    /// What no part changes of it.
+    ghost kept: { Self → Kept };
+
     /// One part more. Says whether it was taken.
     fn tell(&mut self, part: &StatePart) -> bool
         ensures told { result ≡ true → told self.new ≡ told self.old ++ part.now ∷ [] }
         ensures refused { result ≡ false → told self.new ≡ told self.old }
+        ensures kept { kept self.new ≡ kept self.old }
         ensures infallible { IsTrue infallible → result ≡ true };
 }

@@ -13,6 +13,7 @@ use fl_core::Core;
 /// says that the sink refused a part; what it was told then is left open.
 pub fn tell_state<S: StateSink>(core: &Core, sink: &mut S) -> bool
     ensures infallible { IsTrue S.infallible → result ≡ true }
+    ensures kept { S.kept sink.new ≡ S.kept sink.old }
     ensures told { result ≡ true → IsLawful core.now.marking → Tells core.now (S.told sink.old) (S.told sink.new) }
 {
     let arenas = core.arenas();

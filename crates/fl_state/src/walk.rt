@@ -16,6 +16,7 @@ pub(crate) fn tell_all<T: Copy + Says, S: StateSink>(
 ) -> bool
     requires { chains ≡ length arena.now.chains }
     ensures infallible { IsTrue S.infallible → result ≡ true }
+    ensures kept { S.kept sink.new ≡ S.kept sink.old }
     ensures told { result ≡ true → S.told sink.new ≡ S.told sink.old ++ map T.said (all_items arena.now) }
 {
     for chain in 0..chains {
@@ -34,6 +35,7 @@ pub(crate) fn tell_chain<T: Copy + Says, S: StateSink>(
 ) -> bool
     requires { chain < length arena.now.chains }
     ensures infallible { IsTrue S.infallible → result ≡ true }
+    ensures kept { S.kept sink.new ≡ S.kept sink.old }
     ensures told { result ≡ true → S.told sink.new ≡ S.told sink.old ++ map T.said (items arena.now chain) }
 {
     let mut cursor = arena.cursor(chain);

@@ -17,6 +17,8 @@ struct Parts {
 impl StateSink for Parts {
     ghost told = { λ p. p.parts.items };
 
+    ghost kept = { λ _. tt };
+
     fn tell(&mut self, part: &StatePart) -> bool {
         self.parts.len() < self.most && self.parts.push(*part).is_ok()
     }

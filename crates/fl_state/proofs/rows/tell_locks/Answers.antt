@@ -16,5 +16,5 @@ pub returns-clause-told : goal.returns-clause-told
 returns-clause-told g c _ =
     let lists = row_lists c.args.locks.now in
     let k = c.loop-chain.chain in
-    some_done said lists k _ _ (drop_all lists k (omega (arith, c.loop-chain-test.false, c.chain_count-chain-end.ensures))) c.loop-chain.invariant
+    some_done said lists k _ _ (drop_all lists k (omega (arith, c.loop-chain-test.false, c.chain_count-chain-end.ensures))) c.loop-chain.invariant.rest
     ∙ ap (λ l. g.S.StateSink.told c.args.sink.now ++ l) (sym (map_flat lock_part runs_in lists))

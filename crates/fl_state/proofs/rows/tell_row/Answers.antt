@@ -25,6 +25,7 @@ loop-span-preserved g c =
     let index = ap (λ (k : Cursor). k.index) on in
     record {
       at = on ∙ ap (run_cursor c.args.locks.now row.chain row.index) (sym index);
+      kept = c.tell.ensures.kept ∙ inv.kept;
       rest = one_more said xs j c.next_run.new.run.index c.in-Some.span.now before (g.S.StateSink.told c.tell.new.self) found index
           (c.tell.ensures.told c.if-not-tell.false ∙ ap (λ (part : StatePart). before ++ part ∷ []) c.lock_part-part.ensures) ∙ inv.rest;
     }

@@ -8,6 +8,7 @@ use Rattle.fl_state.proofs.rows.tell_row.Given as goal
 abbrev pub invariant-loop-span : goal.invariant-loop-span
 invariant-loop-span g l = record {
   at : l.next ≡ run_cursor l.locks l.row.chain l.row.index l.next.index;
+  kept : g.S.StateSink.kept l.sink ≡ g.S.StateSink.kept l.fn.sink;
   rest : g.S.StateSink.told l.sink ++ map (λ s. lock_part (run_of l.key s)) (drop l.next.index (spans_at l.locks l.row))
       ≡ g.S.StateSink.told l.fn.sink ++ map (λ s. lock_part (run_of l.key s)) (spans_at l.locks l.row);
 }

@@ -29,6 +29,7 @@ loop-key-preserved g c =
     record {
       row = c.next_row.ensures.row;
       chain = ap (λ (k : Cursor). k.chain) on ∙ inv.chain;
+      kept = c.tell_row.ensures.kept ∙ inv.kept;
       rest = some_more said rs i c.next_row.new.row.index (record { key = key; runs = runs_at rs i }) before _ (row_at rs i key found) index
           (c.tell_row.ensures.told c.if-not-tell_row.false ∙ ap (λ n. before ++ said (record { key = key; runs = runs_at (rows table n) i })) inv.chain)
           ∙ inv.rest;

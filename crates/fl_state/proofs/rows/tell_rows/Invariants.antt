@@ -9,6 +9,7 @@ abbrev pub invariant-loop-key : goal.invariant-loop-key
 invariant-loop-key g l = record {
   row : IsRow l.locks l.row;
   chain : l.row.chain ≡ l.chain;
+  kept : g.S.StateSink.kept l.sink ≡ g.S.StateSink.kept l.fn.sink;
   rest : g.S.StateSink.told l.sink ++ flat_map (λ r. map lock_part (runs_of r)) (drop l.row.index (rows l.locks l.chain))
       ≡ g.S.StateSink.told l.fn.sink ++ flat_map (λ r. map lock_part (runs_of r)) (rows l.locks l.chain);
 }

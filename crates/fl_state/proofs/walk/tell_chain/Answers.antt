@@ -20,6 +20,7 @@ loop-item-preserved g c =
     let index = ap (λ (k : Cursor). k.index) on in
     record {
       at = on ∙ ap (cursor_at a chain) (sym index);
+      kept = c.tell.ensures.kept ∙ inv.kept;
       rest = one_more g.T.Says.said xs j c.step.new.cursor.index c.in-Some.item.now before (g.S.StateSink.told c.tell.new.self) found index
           (c.tell.ensures.told c.if-not-tell.false ∙ ap (λ (part : StatePart). before ++ part ∷ []) c.part.ensures) ∙ inv.rest;
     }
