@@ -1,8 +1,10 @@
 pub mod Counts
 pub mod Cuts
+pub mod Drafts
 pub mod Givens
 pub mod Heads
 pub mod Histories
 pub mod Orders
+pub mod Pieces
 pub mod Prefixes
 pub mod Telling

@@ -1,7 +1,9 @@
 pub mod Answered
 pub mod BookCode
 pub mod Heads
+pub mod Inside
 pub mod Kept
 pub mod Leading
 pub mod Legal
+pub mod Pieces
 pub mod Replay

@@ -10,8 +10,10 @@ ghost use Rattle.fl_counter.specs.Tolds.{HasRoom};
 ghost use Rattle.fl_counter.specs.Answered.{step_lines};
 ghost use Rattle.fl_desk.specs.Legal.{IsLegal, LeavesLawful};
 ghost use Rattle.fl_desk.specs.Kept.{IsKept, opening_book};
+ghost use Rattle.fl_desk.specs.Pieces.{IsPiece};
 ghost use Rattle.fl_waiting.specs.Waiting.{is_parked};
 
+use crate::drafting::draft_head;
 use fl_core::{Arenas, Core, Rules, Tolds};
 use fl_history::{History, Journal, Lines};
 use fl_order::{NoMemory, Order, Told};
@@ -28,6 +30,7 @@ pub struct Desk<J: Journal = Lines> {
 
 impl<J: Journal> Model for Desk<J> {
     ghost use Rattle.fl_desk.specs.Kept.{Book, IsKept};
+    ghost use Rattle.fl_desk.specs.Pieces.{IsPiece};
     ghost use Rattle.fl_desk.specs.BookCode.{book_code};
 
     ghost Value = { Book };
@@ -41,7 +44,8 @@ impl<J: Journal> Model for Desk<J> {
       room = J.room d.journal;
     } };
 
-    ghost invariant = { λ d. IsKept (J.lines d.journal) d.present };
+    ghost invariant = { λ d. IsKept (J.lines d.journal) d.present
+        × IsPiece d.present.rules (J.lines d.journal) (J.piece d.journal) };
 }
 
 impl<J: Journal + Drop> Drop for Desk<J> {
@@ -61,6 +65,7 @@ impl<J: Journal> Desk<J> {
     where
         J: Drop,
         requires none { J.lines journal ≡ [] }
+        requires piece { J.piece journal ≡ [] }
         ensures lines { IfOk result (λ desk. desk.lines ≡ []) }
         ensures present { IfOk result (λ desk. desk.present ≡ snapshot_of (opening rules)) }
         ensures stored { IfOk result (λ desk. desk.stored ≡ J.stored journal) }
@@ -73,6 +78,7 @@ impl<J: Journal> Desk<J> {
     /// A desk that goes on behind the lines of a journal, from what is there after them.
     pub fn resume(journal: J, present: Core) -> Desk<J>
         requires kept { IsKept (J.lines journal) present }
+        requires piece { J.piece journal ≡ J.lines journal }
         ensures lines { result.lines ≡ J.lines journal }
         ensures stored { result.stored ≡ J.stored journal }
         ensures present { result.present ≡ present }
@@ -172,13 +178,33 @@ impl<J: Journal> Desk<J> {
         self.journal.store_if_due()
     }
 
+    /// Begins a new piece, if its journal says that one is due: tells a head of what is there, behind which the next
+    /// lines go. If the journal doesn't take all of it, they go where the last ones went. It takes no memory.
+    pub fn turn(&mut self)
+        ensures lines { self.new.lines ≡ self.old.lines }
+        ensures present { self.new.present ≡ self.old.present }
+        ensures stored { IsPrefix self.old.stored self.new.stored }
+        ensures room { self.old.room ≤ self.new.room }
+    {
+        let Desk { journal, present } = self;
+        let Some(lines) = journal.due() else {
+            return;
+        };
+        if !journal.begin_piece() {
+            return;
+        }
+        let whole = draft_head(journal, present, lines);
+        journal.end_piece(whole);
+    }
+
     /// Its journal, with the lines of all that it took. They are legal under its rules, and no two owners have
-    /// conflicting locks after them.
+    /// conflicting locks after them. The piece at hand tells the same.
     pub fn into_journal(self) -> J
         ensures lines { J.lines result ≡ self.lines }
         ensures stored { J.stored result ≡ self.stored }
         ensures legal { IsLegal self.present.rules (J.lines result) }
         ensures lawful { LeavesLawful self.present.rules (J.lines result) }
+        ensures piece { IsPiece self.present.rules (J.lines result) (J.piece result) }
     {
         let Desk {
             journal,
@@ -213,6 +239,7 @@ impl Desk {
 fn append<J: Journal>(journal: &mut J, worker: u32, order: &Order, tolds: &[Told])
     requires { 1 + length tolds.now ≤ J.room journal.old }
     ensures lines { J.lines journal.new ≡ J.lines journal.old ++ step_lines worker order.now tolds.now }
+    ensures piece { J.piece journal.new ≡ J.piece journal.old ++ step_lines worker order.now tolds.now }
     ensures stored { IsPrefix (J.stored journal.old) (J.stored journal.new) }
 {
     journal.push_asked(worker, order);

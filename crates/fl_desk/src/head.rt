@@ -41,8 +41,8 @@ pub fn head_of(alloc: Global, core: &Core, lines: u64) -> Result<ToldHead, NoMem
     })
 }
 
-// What a head begins with that tells what is there.
-fn first_of(core: &Core, lines: u64) -> Head
+/// What a head begins with that tells what is there.
+pub(crate) fn first_of(core: &Core, lines: u64) -> Head
     ensures lines { result.lines ≡ lines }
     ensures rules { NamesRules result core.now.rules }
     ensures node { result.node ≡ core.now.view.directory.next_node }
@@ -70,6 +70,8 @@ struct Telling {
 
 impl StateSink for Telling {
     ghost told = { λ telling. telling.parts.items };
+
+    ghost kept = { λ _. tt };
 
     fn tell(&mut self, part: &StatePart) -> bool {
         self.parts.push(*part).is_ok()

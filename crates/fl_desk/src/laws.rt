@@ -5,10 +5,12 @@ ghost use Rattle.fl_counter.specs.Answered.{step_lines};
 ghost use Rattle.fl_desk.specs.Heads.{begun_lines, head_lines, IsHead, IsToldBy, NamesRules};
 ghost use Rattle.fl_desk.specs.Leading.{LeadsTo, GoesOn, GoesOnTelling};
 ghost use Rattle.fl_desk.specs.Legal.{HasNoHead, IsLegal};
+ghost use Rattle.fl_desk.specs.Pieces.{IsPiece};
 ghost use Rattle.fl_desk.specs.Replay.{state_after, all_later, AllOthers};
 ghost use Rattle.fl_core.specs.Effects.{at_once, recorded};
 ghost use Rattle.fl_core.specs.State.{Snapshot, opening, snapshot_of};
 ghost use Rattle.fl_core.specs.Step.{next, replies};
+ghost use Rattle.fl_history.specs.Place.{place_of};
 ghost use Rattle.fl_history.specs.declared.history.Line.{Line};
 ghost use Rattle.fl_history.specs.declared.history.Line.TheVariants as line;
 ghost use Rattle.fl_order.specs.declared.told.Told.{Told};
@@ -99,6 +101,27 @@ pub fn a_history_can_be_cut()
     ensures piece { (rules : Rules) (before head rest : List Line) → IsLegal rules before → IsHead rules head →
         snapshot_of (state_after rules head) ≡ snapshot_of (state_after rules before) → IsLegal rules (head ++ rest) →
         LeadsTo (before ++ rest) (snapshot_of (state_after rules (head ++ rest))) }
+{
+    a_step_is_what_its_replies_give();
+    an_order_keeps_locks_lawful();
+    a_told_state_is_fit();
+}
+
+/// The piece at hand is a legal history that leads to what all lines lead to, and ends at the same place. What may come
+/// behind all lines may come behind the piece, and the other way round, and leads to the same; so pieces one after
+/// another are one history.
+pub fn a_piece_leads_to_what_all_lines_lead_to()
+    ensures legal { (rules : Rules) (lines piece : List Line) → IsPiece rules lines piece → IsLegal rules lines →
+        IsLegal rules piece }
+    ensures same { (rules : Rules) (lines piece : List Line) → IsPiece rules lines piece → IsLegal rules lines →
+        snapshot_of (state_after rules piece) ≡ snapshot_of (state_after rules lines) }
+    ensures place { (rules : Rules) (lines piece : List Line) → IsPiece rules lines piece →
+        (place_of piece).lines ≡ (place_of lines).lines }
+    ensures goes_on { (rules : Rules) (lines piece more : List Line) (p : Snapshot) → IsPiece rules lines piece →
+        IsLegal rules lines → HasNoHead more → p.rules ≡ rules → LeadsTo (lines ++ more) p ↔ LeadsTo (piece ++ more) p }
+    ensures one { (rules : Rules) (lines : List Line) → IsPiece rules lines lines }
+    ensures more { (rules : Rules) (lines piece more : List Line) → IsPiece rules lines piece → HasNoHead more →
+        IsPiece rules (lines ++ more) (piece ++ more) }
 {
     a_step_is_what_its_replies_give();
     an_order_keeps_locks_lawful();

@@ -7,6 +7,7 @@
 #![tactic(auto)]
 
 mod desk;
+mod drafting;
 mod head;
 pub mod laws;
 

@@ -1,6 +1,6 @@
-//! The last lines of a history, and what they say of the order of a unique.
+//! The last orders and replies of a history, and what they say of the order of a unique.
 
-ghost use Rattle.std.specs.Prelude.{◌≡◌, ◌≤◌, ◌<◌, ◌+◌, ◌-◌, ◌^◌, ◌++◌, ◌∷◌, [], length, drop, IfOk};
+ghost use Rattle.std.specs.Prelude.{◌≡◌, ◌≤◌, ◌<◌, ◌+◌, ◌-◌, ◌^◌, ◌++◌, ◌∷◌, [], length, drop, IfOk, Some};
 ghost use Rattle.std.specs.VecDeque.{deque_capacity, deque_len};
 ghost use Rattle.fl_history.specs.Inside.Entries.{asks_of, entry_of, recalled_by};
 ghost use Rattle.fl_history.specs.Recent.{recalled, recent};
@@ -13,7 +13,7 @@ use std::alloc::Global;
 use std::collections::VecDeque;
 use std::marker::Model;
 
-// So many lines are kept.
+// So many orders and replies are kept.
 const KEPT: usize = 65_536;
 
 const _: () = prove!(size_of::<Entry>() == 64);
@@ -27,15 +27,13 @@ pub enum Recalled {
     Told(Told),
 }
 
-/// What is kept of a line.
+/// What is kept of an order or a reply.
 #[derive(Clone, Copy, Debug)]
 enum Entry {
     /// An order with this unique.
     Asked(u64),
     /// A reply.
     Told(Told),
-    /// A line of a head.
-    State,
 }
 
 impl Entry {
@@ -55,7 +53,8 @@ impl Entry {
     }
 }
 
-/// The last 65,536 lines of a history. Contracts see all lines that were pushed.
+/// The last 65,536 orders and replies of a history: lines of heads don't count. Contracts see all lines that were
+/// pushed.
 #[derive(Drop)]
 pub struct Recent {
     // What is kept of these, in a room that never grows.
@@ -64,9 +63,9 @@ pub struct Recent {
 }
 
 impl Model for Recent {
-    ghost use Rattle.std.specs.Prelude.{◌≡◌, ◌≤◌, List, map};
+    ghost use Rattle.std.specs.Prelude.{◌≡◌, ◌≤◌, List};
     ghost use Rattle.std.specs.VecDeque.{deque_capacity};
-    ghost use Rattle.fl_history.specs.Inside.Entries.{entry_of};
+    ghost use Rattle.fl_history.specs.Inside.Entries.{entries_of};
     ghost use Rattle.fl_history.specs.Recent.{recent};
     ghost use Rattle.fl_history.specs.declared.history.Line.{Line};
 
@@ -74,12 +73,12 @@ impl Model for Recent {
 
     ghost view = { λ r. r.past.items };
 
-    ghost invariant = { λ r. (r.entries.items ≡ map entry_of (recent r.past.items))
+    ghost invariant = { λ r. (r.entries.items ≡ entries_of (recent r.past.items))
         × (65536 ≤ deque_capacity r.entries) };
 }
 
 impl Recent {
-    /// No lines, and memory for as many as are kept.
+    /// No lines, and memory for as many orders and replies as are kept.
     pub fn new(alloc: Global) -> Result<Recent, NoMemory>
         ensures { IfOk result (λ r. r ≡ []) }
     {
@@ -89,14 +88,14 @@ impl Recent {
         })
     }
 
-    /// One line more, after the others. It takes no memory.
+    /// One line more, after the others. It takes no memory, and one of a head takes no place of an order or a reply.
     pub fn push(&mut self, line: &Line)
         ensures { self.new ≡ self.old ++ line.now ∷ [] }
     {
         match line {
             Line::Asked { worker, order } => self.push_asked(*worker, order),
             Line::Told(told) => self.push_told(told),
-            Line::State(_) => self.keep(Entry::State, line),
+            Line::State(_) => self.past = self.past.and(line),
         }
     }
 
@@ -118,10 +117,10 @@ impl Recent {
         self.keep(Entry::Told(*told), &Line::Told(*told));
     }
 
-    // A line more, of which this is kept. The line is for proofs alone.
+    // An order or a reply more, of which this is kept. The line is for proofs alone.
     #[inline(always)]
     fn keep(&mut self, entry: Entry, line: &Line)
-        requires { entry ≡ entry_of line.now }
+        requires { entry_of line.now ≡ Some entry }
         ensures { self.new ≡ self.old ++ line.now ∷ [] }
     {
         drop_oldest(&mut self.entries);
@@ -131,7 +130,7 @@ impl Recent {
         self.past = self.past.and(line);
     }
 
-    /// What the last 65,536 lines say of a unique.
+    /// What the last 65,536 orders and replies say of a unique.
     pub fn recall(&self, unique: u64) -> Recalled
         ensures { result ≡ recalled unique (recent self.now) }
     {

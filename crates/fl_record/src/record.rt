@@ -68,6 +68,7 @@ impl<L: BoardName, R: Wait + Drop + Copy, J: Journal> Record<L, R, J> {
     where
         J: Drop,
         requires none { J.lines journal ≡ [] }
+        requires piece { J.piece journal ≡ [] }
         requires ledger { ledger.total ≡ 0 }
         requires log { log ≡ L.log }
         requires readers { (0 < readers) × (readers < 2 ^ 32) }

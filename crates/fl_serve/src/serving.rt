@@ -71,6 +71,7 @@ where
     R: Threads + Wait + Sync,
     requires workers { (0 < staff.workers) × (staff.workers ≤ 16) }
     requires none { J.lines journal ≡ [] }
+    requires piece { J.piece journal ≡ [] }
     ensures { IsRecordedBy J.lines J.stored staff.workers staff.rules (record {
       left = I.remaining r.old;
       left_now = I.remaining r.new;
@@ -121,6 +122,7 @@ fn run_at<
     requires rules { staff.rules ≡ L.rules }
     requires workers { (0 < staff.workers) × (staff.workers ≤ 16) }
     requires none { J.lines journal ≡ [] }
+    requires piece { J.piece journal ≡ [] }
     requires start { W.contents w.old ≡ N.start }
     requires writer { w.ghost_name ≡ N.writer }
     requires sending { (sending.name ≡ N.name) × (sending.parts ≡ N.parts) × (staff.workers + 1 ≡ N.parts) }

@@ -90,30 +90,33 @@ module _ {W : Type 0} (contents : W → Option (List ℕ)) where
   text_whole : (held : Option (List ℕ)) (lines : List Line) → Wrote contents held (text_of lines) → HoldsText contents held lines
   text_whole held lines w = record { rest = []; wrote = subst (Wrote contents held) (sym (append-nil (text_of lines))) w }
 
-  -- the writer has the text of these lines and nothing else, and there are no others
-  pub starts : (w : W) (unsent : List ℕ) (manner : WhenWriterFails) (base lines noted : List Line)
-      → IsAs (contents w) (text_of base) → unsent ≡ [] → lines ≡ base → noted ≡ base
+  -- the text of these lines was written and nothing else, and there are no others
+  pub starts_written : (w : W) (unsent : List ℕ) (manner : WhenWriterFails) (base lines noted : List Line)
+      → Wrote contents (contents w) (text_of base) → unsent ≡ [] → lines ≡ base → noted ≡ base
       → IsStreamed contents (contents w) unsent false manner lines noted
-  starts w unsent manner base lines noted there no_text lines_are noted_are =
-      let all : Wrote contents (contents w) (text_of base) = record {
-        first = w;
-        front = text_of base;
-        more = [];
-        is_as = there;
-        appended = Appends-nil (contents w);
-        parts = append-nil (text_of base);
-      } in
-      record {
-        sent = text_of base;
-        lost = [];
-        wrote = all;
-        parts = ap (λ u. text_of base ++ u) (append-nil unsent ∙ no_text) ∙ append-nil (text_of base) ∙ ap text_of (sym lines_are);
-        whole = λ _. refl;
-        over = λ _. no_text;
-        breaks = λ e. absurd (cc e);
-        there = text_whole (contents w) noted (subst (λ ls. Wrote contents (contents w) (text_of ls)) (sym noted_are) all);
-        front = of_itself noted lines (lines_are ∙ sym noted_are);
-      }
+  starts_written w unsent manner base lines noted all no_text lines_are noted_are = record {
+    sent = text_of base;
+    lost = [];
+    wrote = all;
+    parts = ap (λ u. text_of base ++ u) (append-nil unsent ∙ no_text) ∙ append-nil (text_of base) ∙ ap text_of (sym lines_are);
+    whole = λ _. refl;
+    over = λ _. no_text;
+    breaks = λ e. absurd (cc e);
+    there = text_whole (contents w) noted (subst (λ ls. Wrote contents (contents w) (text_of ls)) (sym noted_are) all);
+    front = of_itself noted lines (lines_are ∙ sym noted_are);
+  }
+
+  -- the writer has the text of these lines and nothing else
+  pub all_there : (held : Option (List ℕ)) (base : List Line) (w : W) → held ≡ contents w → IsAs held (text_of base)
+      → Wrote contents held (text_of base)
+  all_there held base w is there = record {
+    first = w;
+    front = text_of base;
+    more = [];
+    is_as = subst (λ h. IsAs h (text_of base)) is there;
+    appended = subst (λ h. Appends h held []) is (Appends-nil held);
+    parts = append-nil (text_of base);
+  }
 
   -- the text of a line more waits
   pub line_waits : (held : Option (List ℕ)) (unsent unsent_now : List ℕ) (broken : Bool) (manner : WhenWriterFails)

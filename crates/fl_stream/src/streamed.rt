@@ -109,7 +109,7 @@ impl<W: Write> Streamed<W> {
 
     /// These lines, before a writer that has their text and nothing more. Lines that come are written behind it. It
     /// takes no memory.
-    #[tactic(auto, using(crate::proofs::Streaming::starts))]
+    #[tactic(auto, using(crate::proofs::Streaming::all_there))]
     pub fn behind(
         room: StreamRoom,
         writer: W,
@@ -117,6 +117,29 @@ impl<W: Write> Streamed<W> {
         manner: WhenWriterFails,
     ) -> Streamed<W>
         requires there { IsAs (W.contents writer) (text_of base.now.items) }
+        ensures { result ≡ record {
+          lines = base.now.items;
+          noted = base.now.items;
+          held = W.contents writer;
+          unsent = [];
+          room = 2048;
+          broken = false;
+          manner = manner;
+        } }
+    {
+        Streamed::with_text(room, writer, base, manner)
+    }
+
+    /// These lines, before a writer to which their text was written and nothing more. Lines that come are written
+    /// behind it. It takes no memory.
+    #[tactic(auto, using(crate::proofs::Streaming::starts_written))]
+    pub fn with_text(
+        room: StreamRoom,
+        writer: W,
+        base: &Past<Line>,
+        manner: WhenWriterFails,
+    ) -> Streamed<W>
+        requires there { Wrote W.contents (W.contents writer) (text_of base.now.items) }
         ensures { result ≡ record {
           lines = base.now.items;
           noted = base.now.items;
@@ -161,10 +184,18 @@ impl<W: Write> Streamed<W> {
         written
     }
 
+    /// All lines.
+    pub fn lines(&self) -> Past<Line>
+        ensures { result.items ≡ self.now.lines }
+    {
+        self.past.same()
+    }
+
     /// Whether the writer holds the text of all lines.
-    #[tactic(auto, using(crate::proofs::Streaming::begun))]
+    #[tactic(auto, using(crate::proofs::Streaming::begun, crate::proofs::Streaming::noted_front))]
     pub fn is_whole(&self) -> bool
         ensures value { IsTrue result ↔ (self.now.broken ≡ false) × (self.now.unsent ≡ []) }
+        ensures front { IsPrefix self.now.noted self.now.lines }
         ensures all { IsTrue result → Wrote W.contents self.now.held (text_of self.now.lines) }
         ensures begun { IsBegun W.contents self.now.held self.now.lines }
     {
@@ -199,8 +230,29 @@ impl<W: Write> Streamed<W> {
         writer
     }
 
-    // A line more, whose text waits.
-    fn push(&mut self, line: &Line)
+    /// The writer, as `into_writer` gives it, and the room, with nothing in it.
+    #[tactic(auto, using(crate::proofs::Streaming::begun, crate::proofs::Streaming::noted_there))]
+    pub fn into_parts(self) -> (W, StreamRoom)
+        ensures held { W.contents result.0 ≡ self.held }
+        ensures begun { IsBegun W.contents (W.contents result.0) self.lines }
+        ensures there { HoldsText W.contents (W.contents result.0) self.noted }
+    {
+        let Streamed {
+            past: _,
+            noted: _,
+            unsent,
+            room: _,
+            writer,
+            broken: _,
+            manner: _,
+        } = self;
+        let mut text = unsent;
+        text.clear();
+        (writer, StreamRoom { text })
+    }
+
+    /// A line more, whose text waits.
+    pub fn push(&mut self, line: &Line)
         requires room { 0 < self.old.room }
         ensures lines { self.new.lines ≡ self.old.lines ++ line.now ∷ [] }
         ensures noted { self.new.noted ≡ self.old.noted }
@@ -317,6 +369,10 @@ impl<W: Write> Journal for Streamed<W> {
     ghost stored = { λ s. stored_by s.manner s.lines s.noted };
 
     ghost room = { λ s. s.room };
+
+    ghost piece = { λ s. s.lines };
+
+    ghost draft = { λ _. [] };
 
     // If it goes on without its writer, no order is refused. At `Refuse` each batch of orders is stored before its
     // replies leave, so nothing waits unless a write failed.

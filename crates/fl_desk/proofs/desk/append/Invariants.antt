@@ -7,6 +7,7 @@ use Rattle.fl_desk.proofs.desk.append.Given as goal
 abbrev pub invariant-loop-told : goal.invariant-loop-told
 invariant-loop-told g l = record {
   lines : g.J.Journal.lines l.journal ≡ g.J.Journal.lines l.fn.journal ++ step_lines l.worker l.order (take l.told-index l.tolds);
+  piece : g.J.Journal.piece l.journal ≡ g.J.Journal.piece l.fn.journal ++ step_lines l.worker l.order (take l.told-index l.tolds);
   stored : IsPrefix (g.J.Journal.stored l.fn.journal) (g.J.Journal.stored l.journal);
   room : length l.tolds ≤ g.J.Journal.room l.journal + l.told-index;
 }
