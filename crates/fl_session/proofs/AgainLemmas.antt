@@ -1,11 +1,10 @@
 -- What orders that are sent again are at a server.
 use Rattle.std.proofs.Common.{◌≡◌, ℕ, Bool, true, false, List, [], ◌∷◌, ◌++◌, drop, Option, None, Some, refl, sym, ap, ◌∙◌}
-use Rattle.std.proofs.Common.{append-nil, inl, arith}
+use Rattle.std.proofs.Common.{append-nil, append_assoc, inl, arith}
 use Rattle.std.proofs.Math.ListN.{drop_of_length-le}
 use Rattle.std.specs.Prelude.{if◌then◌else◌, is_some, IfSome}
 use Rattle.fl_desk.specs.Kept.{Book, IsKept}
 use Rattle.fl_desk.specs.Replay.{state_after}
-use Rattle.fl_history.specs.Recent.{recalled, recent}
 use Rattle.fl_history.specs.declared.history.Line.{Line}
 use Rattle.fl_history.specs.declared.recent.Recalled.{Recalled}
 use Rattle.fl_history.specs.declared.recent.Recalled.TheVariants as recall
@@ -14,7 +13,7 @@ use Rattle.fl_order.specs.declared.told.Told.{Told}
 use Rattle.fl_session.proofs.ReplyingLemmas.{behind_none, Collects-none}
 use Rattle.fl_session.specs.Inside.Serving.{session_with, recalled_at, with_lines}
 use Rattle.fl_session.specs.Inside.UnderWay.{TakesAgain, TakesMany, TakesOne, WritesBehind}
-use Rattle.fl_session.specs.Session.{Session, with_orders, with_orders_again, with_recalled}
+use Rattle.fl_session.specs.Session.{Session, recalled_in, with_orders, with_orders_again, with_recalled}
 use Rattle.fl_session.specs.declared.server.Server.{Server}
 use Rattle.fl_transport.specs.Collecting.{Collects, Outgoing}
 use Rattle.fl_transport.specs.Response.{bytes_of}
@@ -28,11 +27,12 @@ pub known_still : (recent : Option (List Line)) (more : List Line) → is_some (
 known_still None more = refl
 known_still (Some lines) more = refl
 
--- they are still those of the desk
-pub recalls_more : (recent : Option (List Line)) (lines more now : List Line) → now ≡ lines ++ more
-    → IfSome recent (λ had. had ≡ lines) → IfSome (with_lines recent more) (λ had. had ≡ now)
-recalls_more None lines more now grown same = tt
-recalls_more (Some had) lines more now grown same = ap (λ l. l ++ more) same ∙ sym grown
+-- they are still those that were heard before, and those of the desk
+pub recalls_more : (recent : Option (List Line)) (heard lines more now : List Line) → now ≡ lines ++ more
+    → IfSome recent (λ had. had ≡ heard ++ lines) → IfSome (with_lines recent more) (λ had. had ≡ heard ++ now)
+recalls_more None heard lines more now grown same = tt
+recalls_more (Some had) heard lines more now grown same =
+    ap (λ l. l ++ more) same ∙ append_assoc heard lines more ∙ ap (λ l. heard ++ l) (sym grown)
 
 -- ---- orders that are sent again
 
@@ -42,11 +42,11 @@ by_recalled s None orders refused = s
 by_recalled s (Some r) orders refused = with_recalled s r orders refused
 
 again_by : (s : Session) (unique : ℕ) (orders : List Order) (refused : List Bool) (found : Option Recalled)
-    → found ≡ recalled_at s.rules s.lines unique → with_orders_again s unique orders refused ≡ by_recalled s found orders refused
+    → found ≡ recalled_at s.rules s.heard s.lines unique → with_orders_again s unique orders refused ≡ by_recalled s found orders refused
 again_by s unique orders refused found is = go (is_parked unique (state_after s.rules s.lines).view.parked) (sym is)
   where
     r : Recalled
-    r = recalled unique (recent s.lines)
+    r = recalled_in s unique
 
     go : (waits : Bool) → (if waits then None else Some r) ≡ found
         → (if waits then s else with_recalled s r orders refused) ≡ by_recalled s found orders refused
@@ -55,7 +55,7 @@ again_by s unique orders refused found is = go (is_parked unique (state_after s.
 
 -- a request of their unique is parked
 pub again_waits : {K : Type 0} (server : Server K) (out : Outgoing) (unique : ℕ) (orders : List Order) (found : Option Recalled)
-    → found ≡ recalled_at server.desk.present.rules server.desk.lines unique → found ≡ None
+    → found ≡ recalled_at server.desk.present.rules server.heard.items server.desk.lines unique → found ≡ None
     → TakesAgain server server out out unique orders
 again_waits server out unique orders found is none = record {
   replies = [];
@@ -70,7 +70,7 @@ again_waits server out unique orders found is none = record {
 
 -- their reply is sent once more
 pub again_told : {K : Type 0} (server : Server K) (desk : Book) (a b : Outgoing) (unique : ℕ) (orders : List Order)
-    (found : Option Recalled) (told : Told) → found ≡ recalled_at server.desk.present.rules server.desk.lines unique
+    (found : Option Recalled) (told : Told) → found ≡ recalled_at server.desk.present.rules server.heard.items server.desk.lines unique
     → found ≡ Some (recall.Told told) → desk.lines ≡ server.desk.lines → desk.present ≡ server.desk.present
     → Collects a b (bytes_of (One told)) → WritesBehind server.desk desk a b
     → TakesAgain server (record server { desk = desk }) a b unique orders
@@ -87,7 +87,7 @@ again_told server desk a b unique orders found told is some lines present collec
 
 -- the lines lack the one that is left
 pub again_one : {K : Type 0} (old new : Server K) (a b : Outgoing) (unique : ℕ) (order : Order) (found : Option Recalled)
-    (count : ℕ) → found ≡ recalled_at old.desk.present.rules old.desk.lines unique → found ≡ Some (recall.Asked count)
+    (count : ℕ) → found ≡ recalled_at old.desk.present.rules old.heard.items old.desk.lines unique → found ≡ Some (recall.Asked count)
     → count ≡ 0 → TakesOne old new a b order → TakesAgain old new a b unique (order ∷ [])
 again_one old new a b unique order found count is some none one = record {
   replies = one.replies;
@@ -103,7 +103,7 @@ again_one old new a b unique order found count is some none one = record {
 
 -- the lines have the only one
 pub again_none : {K : Type 0} (server : Server K) (out : Outgoing) (unique : ℕ) (order : Order) (found : Option Recalled)
-    (count : ℕ) → found ≡ recalled_at server.desk.present.rules server.desk.lines unique
+    (count : ℕ) → found ≡ recalled_at server.desk.present.rules server.heard.items server.desk.lines unique
     → found ≡ Some (recall.Asked count) → (count ≡ 0 → ⊥) → TakesAgain server server out out unique (order ∷ [])
 again_none server out unique order found count is some had = record {
   replies = [];
@@ -122,7 +122,7 @@ again_none server out unique order found count is some had = record {
 
 -- the lines lack those that are left
 pub again_rest : {K : Type 0} (old new : Server K) (a b : Outgoing) (unique : ℕ) (orders : List Order) (found : Option Recalled)
-    (count : ℕ) → found ≡ recalled_at old.desk.present.rules old.desk.lines unique → found ≡ Some (recall.Asked count)
+    (count : ℕ) → found ≡ recalled_at old.desk.present.rules old.heard.items old.desk.lines unique → found ≡ Some (recall.Asked count)
     → TakesMany old new a b (drop count orders) [] → TakesAgain old new a b unique orders
 again_rest old new a b unique orders found count is some many = record {
   replies = many.replies;

@@ -28,7 +28,7 @@ use Rattle.fl_session.proofs.RulesLemmas.{by_message}
 use Rattle.fl_session.specs.Again.{incoming_under, unmarked}
 use Rattle.fl_session.specs.AsOne.{AreAsOne, IsCutInside, NoneRefused, part_of, replies_again}
 use Rattle.fl_session.specs.Once.{AllComeAgain, AreNew, resumed, under_way}
-use Rattle.fl_session.specs.Session.{Came, Session, opening_session, session_from, session_of, with_again, with_either, with_incoming}
+use Rattle.fl_session.specs.Session.{Came, Session, opening_session, recalled_in, session_from, session_of, with_again, with_either, with_incoming}
 use Rattle.fl_session.specs.Session.{with_message, with_order, with_orders, with_recalled}
 use Rattle.fl_transport.specs.Handshake.{advanced, incoming_by, incoming_of}
 use Rattle.fl_transport.specs.declared.handshake.Handshake.{Handshake}
@@ -76,10 +76,10 @@ recalled_sound false s (recall.Asked count) orders refused sound = orders_sound 
 
 again_sound : (s : Session) (unique : ℕ) (refused : List Bool) (it : Incoming) → IsSound s → IsSound (with_again s unique refused it)
 again_sound s unique refused (incoming.Order order) sound =
-    recalled_sound (is_parked unique (state_after s.rules s.lines).view.parked) s (recalled unique (recent s.lines)) (order ∷ [])
+    recalled_sound (is_parked unique (state_after s.rules s.lines).view.parked) s (recalled_in s unique) (order ∷ [])
     refused sound
 again_sound s unique refused (incoming.Batch orders) sound =
-    recalled_sound (is_parked unique (state_after s.rules s.lines).view.parked) s (recalled unique (recent s.lines)) orders refused
+    recalled_sound (is_parked unique (state_after s.rules s.lines).view.parked) s (recalled_in s unique) orders refused
     sound
 again_sound s unique refused (incoming.Response response) sound = sound
 
@@ -126,6 +126,7 @@ forget_free v order unique n free = rw free free
 -- FORGETs of a unique were taken: each has a line and no reply, and no request of the unique is parked
 pub record HasTaken (unique : ℕ) (s : Session) (orders : List Order) (t : Session) : Type 0 where
   pub rules : t.rules ≡ s.rules
+  pub heard : t.heard ≡ s.heard
   pub lines : t.lines ≡ s.lines ++ asks orders
   pub free : is_parked unique (state_after t.rules t.lines).view.parked ≡ false
 
@@ -141,6 +142,7 @@ one_taken laws unique s order sound free is =
     ap (λ tolds. s.lines ++ step_lines 0 order tolds) quiet in
     record {
       rules = refl;
+      heard = refl;
       lines = lines;
       free = ap (λ l. is_parked unique (state_after s.rules l).view.parked) (lines ∙ ap (λ x. s.lines ++ line.Asked 0 x ∷ []) is.1)
           ∙ ap (λ st. is_parked unique st.view.parked) (laws.none s.rules s.lines 0 o [] tt)
@@ -150,13 +152,15 @@ one_taken laws unique s order sound free is =
 pub all_taken : AreKnown → (unique : ℕ) (s : Session) (orders : List Order) → IsSound s
     → is_parked unique (state_after s.rules s.lines).view.parked ≡ false → AllByRecursion (IsForget unique) orders
     → HasTaken unique s orders (with_orders s orders [])
-all_taken laws unique s [] sound free all = record { rules = refl; lines = sym (append-nil s.lines); free = free }
+all_taken laws unique s [] sound free all =
+    record { rules = refl; heard = refl; lines = sym (append-nil s.lines); free = free }
 all_taken laws unique s (order ∷ orders) sound free all =
     let now : Session = with_order s false order in
     let one = one_taken laws unique s order sound free all.0 in
     let rest = all_taken laws unique now orders (order_sound s false order sound) one.free all.1 in
     record {
       rules = rest.rules ∙ one.rules;
+      heard = rest.heard ∙ one.heard;
       lines = rest.lines ∙ ap (λ l. l ++ asks orders) one.lines ∙ append_assoc s.lines (line.Asked 0 order ∷ []) (asks orders);
       free = rest.free;
     }
@@ -240,15 +244,18 @@ batch_goes laws a b first now count c m far knows lacks sound cut g =
     let right : Session = record first { handshake = moved c.message } in
     let free : is_parked unique (state_after now.rules now.lines).view.parked ≡ false =
     (λ i. is_parked unique (state_after (g.alike.rules i) (g.alike.lines i)).view.parked) ∙ taken.free in
-    let some : recalled unique (recent now.lines) ≡ recall.Asked (length had) =
-    ap (λ l. recalled unique (recent l)) (g.alike.lines ∙ taken.lines)
-    ∙ asks_recalled unique first.lines had (named unique had all) (le_trans (few_taken orders count) cut.few) cut.unknown.unsaid in
+    let heard : now.heard ≡ first.heard = g.alike.heard ∙ taken.heard in
+    let lines : now.lines ≡ first.lines ++ asks had = g.alike.lines ∙ taken.lines in
+    let some : recalled_in now unique ≡ recall.Asked (length had) =
+    (λ i. recalled unique (recent (heard i ++ lines i)))
+    ∙ ap (λ l. recalled unique (recent l)) (sym (append_assoc first.heard first.lines (asks had)))
+    ∙ asks_recalled unique (first.heard ++ first.lines) had (named unique had all) (le_trans (few_taken orders count) cut.few) cut.unknown.unsaid in
     let it : incoming_by c.message (said c.message) ≡ incoming.Batch orders = ap (incoming_by c.message) cut.is_batch in
     goes_by a b (with_message now m) (with_message first c) (with_orders left (drop count orders) m.refused)
     (with_orders (record part { handshake = moved c.message }) (drop count orders) m.refused)
     (marked_met now c m knows (g.alike.handshake ∙ here) cut.same
     ∙ ap (with_again left unique m.refused) it
-    ∙ rest_by (is_parked unique (state_after now.rules now.lines).view.parked) (recalled unique (recent now.lines)) left
+    ∙ rest_by (is_parked unique (state_after now.rules now.lines).view.parked) (recalled_in now unique) left
     (length had) orders m.refused free some
     ∙ ap (λ os. with_orders left os m.refused) (drop_taken orders count))
     (plain_met first c lacks far

@@ -11,7 +11,7 @@ use Rattle.fl_core.specs.Step.{replies_in}
 use Rattle.fl_counter.specs.Answered.{step_lines}
 use Rattle.fl_desk.specs.Legal.{nothing}
 use Rattle.fl_desk.specs.Replay.{state_after}
-use Rattle.fl_history.specs.Recent.{recalled, recent, with_line}
+use Rattle.fl_history.specs.Recent.{recalled, spoken, with_line}
 use Rattle.fl_history.specs.declared.history.Line.{Line}
 use Rattle.fl_history.specs.declared.history.Line.TheVariants as line
 use Rattle.fl_history.specs.declared.recent.Recalled.{Recalled}
@@ -27,15 +27,15 @@ use Rattle.fl_session.proofs.KnownLemmas.{asked_said, head_is, or_true, other_sa
 use Rattle.fl_session.proofs.NewLemmas.{AllApart, IsKept, Settles, forgets_apart, message_apart, orders_apart, own_new, still_own}
 use Rattle.fl_session.proofs.OnceLemmas.{goes_on_as_one, moved, over_still, plain_met, resends_from}
 use Rattle.fl_session.proofs.ParkedLemmas.{counted_free, others_counted}
-use Rattle.fl_session.proofs.RecallLemmas.{asks, asks_counted}
-use Rattle.fl_session.proofs.RulesLemmas.{by_message}
+use Rattle.fl_session.proofs.RecallLemmas.{asks, asks_counted, spoken_said}
+use Rattle.fl_session.proofs.RulesLemmas.{by_message, by_orders, heard_from}
 use Rattle.fl_session.specs.Again.{incoming_under, order_under}
 use Rattle.fl_session.specs.AsOne.{AreAsOne, IsCutInside, IsSentAgain, part_of}
 use Rattle.fl_session.specs.Client.{AreOnesAgain, HasTaken, IsNear}
 use Rattle.fl_session.specs.Known.{AreMarked, HaveNothing, HaveOwnUniques}
 use Rattle.fl_session.specs.Once.{AllComeAgain, ComesAgain, SaysTheSame, has_all, is_had, orders_in, resumed, under_way}
-use Rattle.fl_session.specs.Session.{Came, Session, opening_session, session_from, session_of, with_incoming, with_message, with_order}
-use Rattle.fl_session.specs.Session.{with_orders}
+use Rattle.fl_session.specs.Session.{Came, Session, opening_session, recalled_in, session_from, session_of, with_incoming}
+use Rattle.fl_session.specs.Session.{with_message, with_order, with_orders}
 use Rattle.fl_transport.specs.Handshake.{advanced, incoming_by, says_destroy}
 use Rattle.fl_transport.specs.declared.handshake.Incoming.{Incoming}
 use Rattle.fl_transport.specs.declared.handshake.Incoming.TheVariants as incoming
@@ -235,7 +235,7 @@ still_so settles s [] c P lacks far sound own end e came kept first = absurd (le
 still_so settles s (d ∷ taken) c P lacks far sound own end e came kept first =
     ⊎_elim (λ head. here (sym (head_is d c head)))
     (λ tail. still_so settles now taken c P still on.far (message_sound s d sound)
-    (still_own settles s d taken lacks own.1 own.2) end e tail kept first)
+    (still_own settles [] s d taken lacks own.1 own.2) end e tail kept first)
     (Contains-append_cases (d ∷ []) taken c came)
   where
     now : Session
@@ -285,20 +285,20 @@ as_many : (message marked : List ℕ) → SaysTheSame message marked
 as_many message marked same =
     sym (under_long (unique_of message) (incoming_by marked (said marked))) ∙ ap (λ it. length (orders_in it)) same.says
 
-near_had : (s : Session) (u count : ℕ) → IsNear s u → HasAll u count s.lines → is_had s u count ≡ true
-near_had s u count (inl waits) e = ap (λ b. b || has_all (recalled u (recent s.lines)) count) waits
-near_had s u count (inr same) e =
+near_had : (s : Session) (u count : ℕ) → s.heard ≡ [] → IsNear s u → HasAll u count s.lines → is_had s u count ≡ true
+near_had s u count none (inl waits) e = ap (λ b. b || has_all (recalled_in s u) count) waits
+near_had s u count none (inr same) e =
     let waits : Bool = is_parked u (state_after s.rules s.lines).view.parked in
-    ap (λ r. waits || has_all r count) same ∙ ap (λ b. waits || b) e ∙ or_true waits
+    ap (λ r. waits || has_all r count) (same ∙ ap (λ h. recalled u (h ++ s.lines)) none) ∙ ap (λ b. waits || b) e ∙ or_true waits
 
-comes_again : (s : Session) (c : Came) (marked : List ℕ) → SaysTheSame c.message marked → HasOrders s c
+comes_again : (s : Session) (c : Came) (marked : List ℕ) → s.heard ≡ [] → SaysTheSame c.message marked → HasOrders s c
     → IsNear s (unique_of c.message) → ComesAgain s marked
-comes_again s c marked same orders near = record {
+comes_again s c marked none same orders near = record {
   unique = unique_of c.message;
   marked = same.mark;
   stays = same.ends ∙ orders.stays;
   had = ap (is_had s (unique_of c.message)) (as_many c.message marked same)
-      ∙ near_had s (unique_of c.message) (length (orders_in (incoming_by c.message (said c.message)))) near orders.so;
+      ∙ near_had s (unique_of c.message) (length (orders_in (incoming_by c.message (said c.message)))) none near orders.so;
 }
 
 pub own_comes : (s : Session) (message marked : List ℕ) (response : Response) → SaysTheSame message marked
@@ -312,14 +312,29 @@ own_comes s message marked response same own stays =
       marked = same.mark;
       stays = same.ends ∙ stays;
       had = ap (is_had s u) (as_many message marked same ∙ ap (λ it. length (orders_in it)) own)
-          ∙ ap (λ b. waits || b) (has_none (recalled u (recent s.lines))) ∙ or_true waits;
+          ∙ ap (λ b. waits || b) (has_none (recalled_in s u)) ∙ or_true waits;
     }
 
--- all lines of a short session are among the last
-pub near_short : (s : Session) (u : ℕ) → length s.lines ≤ 65536 → IsNear s u
+-- all orders and replies of a short session are among the last
+pub near_short : (s : Session) (u : ℕ) → length (spoken (s.heard ++ s.lines)) ≤ 65536 → IsNear s u
 near_short s u short =
-    let none : length s.lines - 65536 ≡ 0 = omega (arith, short) in
-    inr (ap (λ n. recalled u (drop n s.lines)) none)
+    let all : List Line = s.heard ++ s.lines in
+    let none : length (spoken all) - 65536 ≡ 0 = omega (arith, short) in
+    inr (ap (λ n. recalled u (drop n (spoken all))) none ∙ spoken_said u (recall.Asked 0) all)
+
+-- ---- a session that heard nothing before its lines
+
+pub none_heard : (rules : Rules) (came : List Came) → (session_of rules came).heard ≡ []
+none_heard rules came = heard_from (opening_session rules) came
+
+-- a client's uniques are its own if none of its lines has one
+pub own_alone : (s : Session) (came : List Came) → s.heard ≡ [] → HaveOwnUniques (s.heard ++ s.lines) came
+    → HaveOwnUniques s.lines came
+own_alone s came none own = subst (λ h. HaveOwnUniques (h ++ s.lines) came) none own
+
+own_of : (s : Session) (came : List Came) → s.heard ≡ [] → HaveOwnUniques s.lines came
+    → HaveOwnUniques (s.heard ++ s.lines) came
+own_of s came none own = subst (λ h. HaveOwnUniques (h ++ s.lines) came) (sym none) own
 
 -- ---- what the client sends
 
@@ -341,14 +356,14 @@ own_later : Settles → (s : Session) (taken unread : List Came) → s.resends �
 own_later settles s [] unread lacks own = own
 own_later settles s (c ∷ taken) unread lacks own =
     own_later settles (with_message s c) taken unread ((by_message s c).resends ∙ lacks)
-    (still_own settles s c (taken ++ unread) lacks own.1 own.2)
+    (still_own settles [] s c (taken ++ unread) lacks own.1 own.2)
 
-each_again : (s : Session) (taken again : List Came) → ((c : Came) → Contains taken c → HasOrders s c)
+each_again : (s : Session) (taken again : List Came) → s.heard ≡ [] → ((c : Came) → Contains taken c → HasOrders s c)
     → AreOnesAgain s taken again → AllComeAgain s again
-each_again s taken [] had all = tt
-each_again s taken (m ∷ again) had all = (
-  comes_again s all.0.came m.message all.0.same (had all.0.came all.0.is) all.0.near,
-  each_again s taken again had all.1,
+each_again s taken [] none had all = tt
+each_again s taken (m ∷ again) none had all = (
+  comes_again s all.0.came m.message none all.0.same (had all.0.came all.0.is) all.0.near,
+  each_again s taken again none had all.1,
 )
 
 taken_had : AreKnown → Settles → (rules : Rules) (early taken unread : List Came)
@@ -357,7 +372,8 @@ taken_had : AreKnown → Settles → (rules : Rules) (early taken unread : List 
 taken_had laws settles rules early taken unread has c =
     let s : Session = session_of rules early in
     each_had laws settles s taken c (resends_from (opening_session rules) early) has.began
-    (session_sound (opening_session rules) early nothing) (own_front s.lines taken unread has.own) has.far has.unrefused
+    (session_sound (opening_session rules) early nothing)
+    (own_front s.lines taken unread (own_alone s (taken ++ unread) (none_heard rules early) has.own)) has.far has.unrefused
 
 pub client_as_one : AreKnown → Settles → (rules : Rules) (early taken again unread marked : List Came)
     → HasTaken (session_of rules early) taken unread → AreOnesAgain (session_of rules (early ++ taken)) taken again
@@ -369,15 +385,17 @@ client_as_one laws settles rules early taken again unread marked has ones new =
     let first : Session = session_of rules (early ++ taken) in
     let joined : first ≡ session_from s taken = fold-append with_message (opening_session rules) early taken in
     let lacks : s.resends ≡ false = resends_from (opening_session rules) early in
+    let none : (session_from s taken).heard ≡ [] = heard_from s taken ∙ none_heard rules early in
     subst (λ came. AreAsOne first (session_from (resumed first) (again ++ marked)) (session_of rules came) again)
     (append_assoc early taken unread)
     (goes_on_as_one rules (early ++ taken) again unread marked
     (subst (λ t. IsSentAgain t again unread marked) (sym joined) (record {
       far = has.far;
-      had = each_again (session_from s taken) taken again (taken_had laws settles rules early taken unread has)
+      had = each_again (session_from s taken) taken again none (taken_had laws settles rules early taken unread has)
           (subst (λ t. AreOnesAgain t taken again) joined ones);
       new = own_new settles (session_from s taken) unread marked (resends_from s taken ∙ lacks)
-          (own_later settles s taken unread lacks has.own) new;
+          (own_of (session_from s taken) unread none
+          (own_later settles s taken unread lacks (own_alone s (taken ++ unread) (none_heard rules early) has.own))) new;
     })))
 
 -- ---- a cut inside a batch
@@ -412,9 +430,10 @@ client_as_one_inside laws settles rules early taken again unread marked batch sa
     subst (λ came. AreAsOne part (session_from (resumed part) (again ++ same ∷ marked)) (session_of rules came) again)
     (append_assoc early taken (batch ∷ unread))
     (batch_as_one laws rules (early ++ taken) again unread marked batch same count (ap (λ t. t.handshake) joined ∙ has.far) cut
-    (each_again part taken again had ones)
+    (each_again part taken again ((by_orders first (take count (forgets_in batch.message)) []).heard ∙ none) had ones)
     (own_new settles (with_message first batch) unread marked ((by_message first batch).resends ∙ lacks)
-    (still_own settles first batch unread lacks later.1 later.2) new))
+    (own_of (with_message first batch) unread ((by_message first batch).heard ∙ none)
+    (still_own settles [] first batch unread lacks later.1 later.2)) new))
   where
     s : Session
     s = session_of rules early
@@ -431,9 +450,15 @@ client_as_one_inside laws settles rules early taken again unread marked batch sa
     lacks : first.resends ≡ false
     lacks = resends_from (opening_session rules) (early ++ taken)
 
+    none : first.heard ≡ []
+    none = none_heard rules (early ++ taken)
+
+    own : HaveOwnUniques s.lines (taken ++ batch ∷ unread)
+    own = own_alone s (taken ++ batch ∷ unread) (none_heard rules early) has.own
+
     later : HaveOwnUniques first.lines (batch ∷ unread)
     later = subst (λ (t : Session). HaveOwnUniques t.lines (batch ∷ unread)) (sym joined)
-        (own_later settles s taken (batch ∷ unread) (resends_from (opening_session rules) early) has.own)
+        (own_later settles s taken (batch ∷ unread) (resends_from (opening_session rules) early) own)
 
     had : (c : Came) → Contains taken c → HasOrders part c
     had c came =
@@ -443,7 +468,7 @@ client_as_one_inside laws settles rules early taken again unread marked batch sa
         subst (λ t. HasOrders t c) (sym joined) (taken_had laws settles rules early taken (batch ∷ unread) has c came) in
         let apart : AllApart u (take count (forgets_in batch.message)) =
         all_first (λ (o : Order). o.unique ≢ u) count (forgets_in batch.message)
-        (forgets_apart u batch.message _ (own_apart s.lines taken c batch unread has.own came)) in
+        (forgets_apart u batch.message _ (own_apart s.lines taken c batch unread own came)) in
         record {
           stays = before.stays;
           so = orders_apart u (HasAll u n) (all_kept u n) first (take count (forgets_in batch.message)) [] apart before.so;

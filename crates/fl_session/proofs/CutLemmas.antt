@@ -11,7 +11,6 @@ use Rattle.fl_desk.specs.Leading.{GoesOn, LeadsTo, ends, goes, heads}
 use Rattle.fl_counter.specs.Answered.{step_lines}
 use Rattle.fl_desk.specs.Legal.{IsLegal, nothing}
 use Rattle.fl_desk.specs.Replay.{state_after}
-use Rattle.fl_history.specs.Recent.{recalled, recent}
 use Rattle.fl_history.specs.declared.history.Line.{Line}
 use Rattle.fl_history.specs.declared.history.Line.TheVariants as line
 use Rattle.fl_history.specs.declared.recent.Recalled.{Recalled}
@@ -29,7 +28,7 @@ use Rattle.fl_session.specs.Again.{incoming_under, unmarked}
 use Rattle.fl_session.specs.AsOne.{NoneRefused, part_of}
 use Rattle.fl_session.specs.CutOff.{AreOfPart, AreOfSession, AreTakenOf, cut_in, with_replies}
 use Rattle.fl_session.specs.Once.{under_way}
-use Rattle.fl_session.specs.Session.{Came, Session, opening_session, session_from, session_of, with_again, with_either, with_incoming}
+use Rattle.fl_session.specs.Session.{Came, Session, opening_session, recalled_in, session_from, session_of, with_again, with_either, with_incoming}
 use Rattle.fl_session.specs.Session.{with_message, with_order, with_orders, with_recalled}
 use Rattle.fl_transport.specs.Handshake.{advanced, incoming_by, incoming_of, own_answer}
 use Rattle.fl_transport.specs.declared.handshake.Incoming.{Incoming}
@@ -173,10 +172,10 @@ recalled_grows false s (recall.Asked count) orders refused = orders_grow s (drop
 again_grows : (s : Session) (unique : ℕ) (refused : List Bool) (it : Incoming)
     → IsPrefix s.lines (with_again s unique refused it).lines
 again_grows s unique refused (incoming.Order order) =
-    recalled_grows (is_parked unique (state_after s.rules s.lines).view.parked) s (recalled unique (recent s.lines)) (order ∷ [])
+    recalled_grows (is_parked unique (state_after s.rules s.lines).view.parked) s (recalled_in s unique) (order ∷ [])
     refused
 again_grows s unique refused (incoming.Batch orders) =
-    recalled_grows (is_parked unique (state_after s.rules s.lines).view.parked) s (recalled unique (recent s.lines)) orders refused
+    recalled_grows (is_parked unique (state_after s.rules s.lines).view.parked) s (recalled_in s unique) orders refused
 again_grows s unique refused (incoming.Response response) = of_itself s.lines s.lines refl
 
 either_grows : (s : Session) (mark : Option ℕ) (refused : List Bool) (it : Incoming)

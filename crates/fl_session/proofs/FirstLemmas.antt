@@ -6,7 +6,6 @@ use Rattle.std.specs.Prelude.{◌^◌, nat_le, if◌then◌else◌}
 use Rattle.std.proofs.lemmas.Grind.{fold-append}
 use Rattle.fl_core.specs.Step.{replies_in}
 use Rattle.fl_desk.specs.Replay.{state_after}
-use Rattle.fl_history.specs.Recent.{recalled, recent}
 use Rattle.fl_history.specs.declared.history.Line.{Line}
 use Rattle.fl_history.specs.declared.recent.Recalled.{Recalled}
 use Rattle.fl_history.specs.declared.recent.Recalled.TheVariants as recall
@@ -21,7 +20,7 @@ use Rattle.fl_session.specs.Again.{incoming_under, unmarked}
 use Rattle.fl_session.specs.AsOne.{AllPlain}
 use Rattle.fl_session.specs.Once.{resumed, under_way}
 use Rattle.fl_session.specs.Session.{Came, Session, session_behind, session_from, session_of, with_again, with_either, with_incoming}
-use Rattle.fl_session.specs.Session.{opening_session, with_message, with_order, with_orders, with_recalled, with_response}
+use Rattle.fl_session.specs.Session.{opening_session, recalled_in, with_message, with_order, with_orders, with_recalled, with_response}
 use Rattle.fl_transport.specs.Handshake.{advanced, agrees, incoming_of, is_agreed, opening, own_answer}
 use Rattle.fl_transport.specs.Response.{bytes_of, lost}
 use Rattle.fl_transport.specs.declared.handshake.Incoming.{Incoming}
@@ -81,7 +80,7 @@ session_known knows s (c ∷ came) plain =
     ap (λ t. session_from t came) (message_known knows s c plain.0) ∙ session_known knows (with_message s c) came plain.1
 
 pub plain_session : (rules : Rules) (came : List Came) → AllPlain came
-    → session_from (session_behind rules [] true) came ≡ record (session_of rules came) { resends = true }
+    → session_from (session_behind rules [] [] true) came ≡ record (session_of rules came) { resends = true }
 plain_session rules came plain = session_known true (opening_session rules) came plain
 
 -- ---- what was answered before changes nothing
@@ -128,10 +127,10 @@ recalled_behind false a s (recall.Asked count) orders refused = orders_behind a 
 again_behind : (a : List (List ℕ)) (s : Session) (unique : ℕ) (refused : List Bool) (it : Incoming)
     → with_again (behind a s) unique refused it ≡ behind a (with_again s unique refused it)
 again_behind a s unique refused (incoming.Order order) =
-    recalled_behind (is_parked unique (state_after s.rules s.lines).view.parked) a s (recalled unique (recent s.lines)) (order ∷ [])
+    recalled_behind (is_parked unique (state_after s.rules s.lines).view.parked) a s (recalled_in s unique) (order ∷ [])
     refused
 again_behind a s unique refused (incoming.Batch orders) =
-    recalled_behind (is_parked unique (state_after s.rules s.lines).view.parked) a s (recalled unique (recent s.lines)) orders refused
+    recalled_behind (is_parked unique (state_after s.rules s.lines).view.parked) a s (recalled_in s unique) orders refused
 again_behind a s unique refused (incoming.Response response) = response_behind a s response
 
 either_behind : (a : List (List ℕ)) (s : Session) (mark : Option ℕ) (refused : List Bool) (it : Incoming)
@@ -160,67 +159,68 @@ session_behind_replies a s (c ∷ came) =
 
 -- ---- the INIT of a session that goes on
 
--- a session behind these lines that sent this, and in which no INIT is agreed
-abbrev waiting : Rules → List Line → Bool → List (List ℕ) → Session
-waiting rules base knows sent = record (session_behind rules base knows) { replies = sent }
+-- a session that heard these lines, goes on behind these others and sent this, and in which no INIT is agreed
+abbrev waiting : Rules → List Line → List Line → Bool → List (List ℕ) → Session
+waiting rules heard base knows sent = record (session_behind rules heard base knows) { replies = sent }
 
 -- what the session itself answers to a message before an INIT is agreed
 abbrev answer_to : Came → List (List ℕ)
 answer_to c = bytes_of (own_answer c.message (kind_of_opcode (opcode_of c.message)))
 
-one_early : (rules : Rules) (base : List Line) (knows : Bool) (sent : List (List ℕ)) (c : Came)
+one_early : (rules : Rules) (heard base : List Line) (knows : Bool) (sent : List (List ℕ)) (c : Came)
     → nat_le (2 ^ 63) (unique_of c.message) ≡ false → agrees c.message (kind_of_opcode (opcode_of c.message)) ≡ false
-    → with_message (waiting rules base knows sent) c ≡ waiting rules base knows (sent ++ answer_to c)
-one_early rules base knows sent c plain early =
-    plain_is (waiting rules base knows sent) c plain
-    ∙ ap (λ b. record (waiting rules base knows (sent ++ answer_to c)) { handshake = record { agreed = b; over = false } }) early
+    → with_message (waiting rules heard base knows sent) c ≡ waiting rules heard base knows (sent ++ answer_to c)
+one_early rules heard base knows sent c plain early =
+    plain_is (waiting rules heard base knows sent) c plain
+    ∙ ap (λ b. record (waiting rules heard base knows (sent ++ answer_to c)) { handshake = record { agreed = b; over = false } }) early
 
 agreed_on : (s : Session) (came : List Came) → s.handshake.agreed ≡ true → (session_from s came).handshake.agreed ≡ true
 agreed_on s [] e = e
 agreed_on s (c ∷ came) e = agreed_on (with_message s c) came (agrees_on s c e)
 
 -- until an INIT is agreed, it makes no difference behind which lines a session goes on
-all_early : (rules : Rules) (base : List Line) (knows : Bool) (sent : List (List ℕ)) (early : List Came) → AllPlain early
-    → (session_from (waiting rules [] false sent) early).handshake ≡ opening
-    → session_from (waiting rules base knows sent) early
-    ≡ waiting rules base knows (session_from (waiting rules [] false sent) early).replies
-all_early rules base knows sent [] plain end = refl
-all_early rules base knows sent (c ∷ early) plain end =
+all_early : (rules : Rules) (heard base : List Line) (knows : Bool) (sent : List (List ℕ)) (early : List Came) → AllPlain early
+    → (session_from (waiting rules [] [] false sent) early).handshake ≡ opening
+    → session_from (waiting rules heard base knows sent) early
+    ≡ waiting rules heard base knows (session_from (waiting rules [] [] false sent) early).replies
+all_early rules heard base knows sent [] plain end = refl
+all_early rules heard base knows sent (c ∷ early) plain end =
     by (agrees c.message (kind_of_opcode (opcode_of c.message))) refl
-    (λ begins. all_early rules base knows (sent ++ answer_to c) early plain.1 begins)
+    (λ begins. all_early rules heard base knows (sent ++ answer_to c) early plain.1 begins)
   where
     start : Session
-    start = waiting rules [] false sent
+    start = waiting rules [] [] false sent
 
-    more : Bool → List Line → Session
-    more knows base = waiting rules base knows (sent ++ answer_to c)
+    more : Bool → List Line → List Line → Session
+    more knows heard base = waiting rules heard base knows (sent ++ answer_to c)
 
     by : (b : Bool) → agrees c.message (kind_of_opcode (opcode_of c.message)) ≡ b
-        → ((session_from (more false []) early).handshake ≡ opening
-        → session_from (more knows base) early ≡ waiting rules base knows (session_from (more false []) early).replies)
-        → session_from (waiting rules base knows sent) (c ∷ early)
-        ≡ waiting rules base knows (session_from start (c ∷ early)).replies
+        → ((session_from (more false [] []) early).handshake ≡ opening
+        → session_from (more knows heard base) early
+        ≡ waiting rules heard base knows (session_from (more false [] []) early).replies)
+        → session_from (waiting rules heard base knows sent) (c ∷ early)
+        ≡ waiting rules heard base knows (session_from start (c ∷ early)).replies
     by true e rest =
         let first : (with_message start c).handshake.agreed ≡ true = ap (λ h. h.agreed) (by_message start c).handshake ∙ e in
         let both : true ≡ false = sym (agreed_on (with_message start c) early first) ∙ ap (λ h. h.agreed) end in
         absurd (cc both)
     by false e rest =
-        let one = one_early rules [] false sent c plain.0 e in
-        ap (λ t. session_from t early) (one_early rules base knows sent c plain.0 e)
+        let one = one_early rules [] [] false sent c plain.0 e in
+        ap (λ t. session_from t early) (one_early rules heard base knows sent c plain.0 e)
         ∙ rest (ap (λ (t : Session). (session_from t early).handshake) (sym one) ∙ end)
-        ∙ ap (λ (t : Session). waiting rules base knows (session_from t early).replies) (sym one)
+        ∙ ap (λ (t : Session). waiting rules heard base knows (session_from t early).replies) (sym one)
 
 pub init_first : (first : Session) (early : List Came) (init : Came) (came : List Came) → first.handshake ≡ under_way
     → (session_of first.rules early).handshake ≡ opening → kind_of_opcode (opcode_of init.message) ≡ Some kinds.Init
     → is_agreed (init_step init.message) ≡ true → AllPlain early → AllPlain (init ∷ [])
-    → session_from (session_behind first.rules first.lines true) (early ++ init ∷ came)
+    → session_from (session_behind first.rules first.heard first.lines true) (early ++ init ∷ came)
     ≡ record (session_from (resumed first) came) {
       replies = (session_of first.rules early).replies
           ++ init_spelling (unique_of init.message) (init_step init.message) ∷ (session_from (resumed first) came).replies;
     }
 init_first first early init came far begins kind agreed before plain =
-    fold-append with_message (waiting first.rules first.lines true []) early (init ∷ came)
-    ∙ ap (λ t. session_from (with_message t init) came) (all_early first.rules first.lines true [] early before begins)
+    fold-append with_message (waiting first.rules first.heard first.lines true []) early (init ∷ came)
+    ∙ ap (λ t. session_from (with_message t init) came) (all_early first.rules first.heard first.lines true [] early before begins)
     ∙ ap (λ t. session_from t came) here
     ∙ session_behind_replies sent (behind (reply ∷ []) (resumed first)) came
     ∙ ap (behind sent) (session_behind_replies (reply ∷ []) (resumed first) came)
@@ -229,7 +229,7 @@ init_first first early init came far begins kind agreed before plain =
     sent = (session_of first.rules early).replies
 
     start : Session
-    start = waiting first.rules first.lines true sent
+    start = waiting first.rules first.heard first.lines true sent
 
     reply : List ℕ
     reply = init_spelling (unique_of init.message) (init_step init.message)

@@ -1,26 +1,26 @@
 -- What a client gets that uses each unique for one message.
 use Rattle.std.proofs.Common.{◌≡◌, ℕ, zero, suc, ◌-◌, ◌≤◌, Bool, true, false, ◌||◌, ◌+◌, List, [], ◌∷◌, ◌++◌, length, drop, Some}
-use Rattle.std.proofs.Common.{refl, sym, ap, subst, ◌∙◌, arith, length-append, ⊎_elim}
-use Rattle.std.specs.Prelude.{All, Contains, flat_map, fold, if◌then◌else◌, nat_le, ◌≢◌, slice_index_or}
+use Rattle.std.proofs.Common.{refl, sym, ap, subst, ◌∙◌, arith, ⊎_elim}
+use Rattle.std.specs.Prelude.{All, Contains, flat_map, fold, if◌then◌else◌, nat_le, slice_index_or}
 use Rattle.std.proofs.lemmas.Bool.{eq-eqb, le-leb, ne_eqb}
 use Rattle.std.proofs.lemmas.Grind.{fold-append}
-use Rattle.std.proofs.lemmas.List.{drop-append-le, length-map}
+use Rattle.std.proofs.lemmas.List.{length-map}
 use Rattle.std.proofs.lemmas.List.Elements.{All-append, All-contains_itself, All-same, Contains-append_cases, Contains-append_left, Contains-append_right}
 use Rattle.fl_desk.specs.Replay.{state_after}
-use Rattle.fl_history.specs.Recent.{recalled, recent, with_ask, with_line}
+use Rattle.fl_history.specs.Recent.{recalled, recent, spoken, with_ask, with_line}
 use Rattle.fl_history.specs.declared.history.Line.{Line}
 use Rattle.fl_history.specs.declared.history.Line.TheVariants as line
 use Rattle.fl_history.specs.declared.recent.Recalled.{Recalled}
 use Rattle.fl_history.specs.declared.recent.Recalled.TheVariants as recall
 use Rattle.fl_order.specs.declared.order.Order.{Order}
 use Rattle.fl_order.specs.declared.told.Told.{Told}
-use Rattle.fl_session.proofs.ParkedLemmas.{counted_free, others_counted, replied_free}
-use Rattle.fl_session.proofs.RecallLemmas.{asks, asks_counted, behind_unsaid}
+use Rattle.fl_session.proofs.ParkedLemmas.{counted_free, later_counted, others_counted, replied_free}
+use Rattle.fl_session.proofs.RecallLemmas.{asks, asks_counted, behind_unsaid, few_spoken, recent_split, spoken_long, spoken_said}
 use Rattle.fl_session.specs.Again.{incoming_under, response_under, unmarked}
 use Rattle.fl_session.specs.AsOne.{AreAsOne, replies_again, reply_again, reply_in, reply_unmarked}
 use Rattle.fl_session.specs.Known.{HaveBatch, HaveNothing, HaveOrder, HaveReply, IsBatchAgain, IsOf, IsOrderAgain}
 use Rattle.fl_session.specs.Once.{ComesAgain, IsUnknown, SaysTheSame, has_all, is_had, orders_in}
-use Rattle.fl_session.specs.Session.{Came, Session}
+use Rattle.fl_session.specs.Session.{Came, Session, recalled_in}
 use Rattle.fl_transport.specs.Handshake.{incoming_by, says_destroy}
 use Rattle.fl_transport.specs.Response.{bytes_of}
 use Rattle.fl_transport.specs.declared.handshake.Incoming.{Incoming}
@@ -70,11 +70,19 @@ others_said unique before [] none = refl
 others_said unique before (l ∷ lines) none =
     ap (λ b. fold (with_line unique) b lines) (other_said unique before l none.0) ∙ others_said unique before lines none.1
 
-pub nothing_unknown : (s : Session) (unique : ℕ) → HaveNothing unique s.lines → IsUnknown s unique
-nothing_unknown s unique none = record {
-  free = counted_free unique s.rules s.lines (others_counted unique 0 s.lines none);
-  unsaid = behind_unsaid unique (length s.lines - 65536) s.lines (others_said unique (recall.Asked 0) s.lines none);
-}
+-- lines of which none has it say nothing of it
+unsaid_before : (unique n : ℕ) (lines : List Line) → HaveNothing unique lines
+    → recalled unique (drop n (spoken lines)) ≡ recall.Asked 0
+unsaid_before unique n lines none = behind_unsaid unique n (spoken lines)
+    (spoken_said unique (recall.Asked 0) lines ∙ others_said unique (recall.Asked 0) lines none)
+
+pub nothing_unknown : (s : Session) (unique : ℕ) → HaveNothing unique (s.heard ++ s.lines) → IsUnknown s unique
+nothing_unknown s unique none =
+    let all : List Line = s.heard ++ s.lines in
+    record {
+      free = counted_free unique s.rules s.lines (later_counted unique s.heard s.lines (others_counted unique 0 all none));
+      unsaid = unsaid_before unique (length (spoken all) - 65536) all none;
+    }
 
 -- ---- a reply in the last lines
 
@@ -86,14 +94,12 @@ reply_recalled lines told h =
     let u : ℕ = told.unique in
     let front : List Line = h.before ++ line.Asked h.worker h.order ∷ h.between in
     let back : List Line = line.Told told ∷ h.after in
-    let n : ℕ = length (front ++ back) - 65536 in
-    let long = length-append front back in
+    let n : ℕ = length (spoken (front ++ back)) - 65536 in
     let near = h.near in
-    let within : n ≤ length front = omega (arith, long, near) in
+    let few : suc (length (spoken h.after)) ≤ 65536 = omega (arith, near) in
     ap (λ l. recalled u (recent l)) h.stand
-    ∙ ap (recalled u) (drop-append-le n front back within)
-    ∙ fold-append (with_line u) (recall.Asked 0) (drop n front) back
-    ∙ ap (λ b. fold (with_line u) b h.after) (told_said told (fold (with_line u) (recall.Asked 0) (drop n front)))
+    ∙ recent_split u front back few
+    ∙ ap (λ b. fold (with_line u) b h.after) (told_said told (recalled u (drop n (spoken front))))
     ∙ others_said u (recall.Told told) h.after h.none_after
 
 pub asked_said : (unique worker : ℕ) (order : Order) → order.unique ≡ unique
@@ -104,14 +110,12 @@ asked_said unique worker order named =
 order_recalled : (lines : List Line) (unique : ℕ) → HaveOrder lines unique → recalled unique (recent lines) ≡ recall.Asked 1
 order_recalled lines u h =
     let back : List Line = line.Asked h.worker h.order ∷ h.after in
-    let n : ℕ = length (h.before ++ back) - 65536 in
-    let long = length-append h.before back in
+    let n : ℕ = length (spoken (h.before ++ back)) - 65536 in
     let near = h.near in
-    let within : n ≤ length h.before = omega (arith, long, near) in
+    let few : suc (length (spoken h.after)) ≤ 65536 = omega (arith, near) in
     ap (λ l. recalled u (recent l)) h.stand
-    ∙ ap (recalled u) (drop-append-le n h.before back within)
-    ∙ fold-append (with_line u) (recall.Asked 0) (drop n h.before) back
-    ∙ ap (λ b. fold (with_line u) b back) (behind_unsaid u n h.before (others_said u (recall.Asked 0) h.before h.none_before))
+    ∙ recent_split u h.before back few
+    ∙ ap (λ b. fold (with_line u) b back) (unsaid_before u n h.before h.none_before)
     ∙ ap (λ b. fold (with_line u) b h.after) (asked_said u h.worker h.order h.named)
     ∙ others_said u (recall.Asked 1) h.after h.none_after
 
@@ -119,16 +123,15 @@ batch_recalled : (lines : List Line) (unique : ℕ) (orders : List Order) → Ha
     → recalled unique (recent lines) ≡ recall.Asked (0 + length orders)
 batch_recalled lines u orders h =
     let back : List Line = asks orders ++ h.after in
-    let n : ℕ = length (h.before ++ back) - 65536 in
-    let long = length-append h.before back in
-    let behind : length back ≡ length orders + length h.after =
-    length-append (asks orders) h.after ∙ ap (λ k. k + length h.after) (length-map orders (λ order. line.Asked 0 order)) in
+    let n : ℕ = length (spoken (h.before ++ back)) - 65536 in
+    let long = spoken_long (asks orders) h.after in
+    let asked : length (asks orders) ≡ length orders = length-map orders (λ order. line.Asked 0 order) in
+    let spoken_few = few_spoken (asks orders) in
     let near = h.near in
-    let within : n ≤ length h.before = omega (arith, long, behind, near) in
+    let few : length (spoken back) ≤ 65536 = omega (arith, long, asked, spoken_few, near) in
     ap (λ l. recalled u (recent l)) h.stand
-    ∙ ap (recalled u) (drop-append-le n h.before back within)
-    ∙ fold-append (with_line u) (recall.Asked 0) (drop n h.before) back
-    ∙ ap (λ b. fold (with_line u) b back) (behind_unsaid u n h.before (others_said u (recall.Asked 0) h.before h.none_before))
+    ∙ recent_split u h.before back few
+    ∙ ap (λ b. fold (with_line u) b back) (unsaid_before u n h.before h.none_before)
     ∙ fold-append (with_line u) (recall.Asked 0) (asks orders) h.after
     ∙ ap (λ b. fold (with_line u) b h.after) (asks_counted u 0 orders h.named)
     ∙ others_said u (recall.Asked (0 + length orders)) h.after h.none_after
@@ -148,26 +151,26 @@ comes_by s unique message order had = record {
   had = ap (λ says. is_had s unique (length (orders_in (incoming_by message says)))) order.says ∙ had;
 }
 
-pub replied_comes : (s : Session) (told : Told) (message : List ℕ) → HaveReply s.lines told → IsOrderAgain told.unique message
+pub replied_comes : (s : Session) (told : Told) (message : List ℕ) → HaveReply (s.heard ++ s.lines) told → IsOrderAgain told.unique message
     → ComesAgain s message
 replied_comes s told message h order =
     let waits : Bool = is_parked told.unique (state_after s.rules s.lines).view.parked in
     comes_by s told.unique message order
-    (ap (λ r. waits || has_all r 1) (reply_recalled s.lines told h) ∙ or_true waits)
+    (ap (λ r. waits || has_all r 1) (reply_recalled (s.heard ++ s.lines) told h) ∙ or_true waits)
 
-pub asked_comes : (s : Session) (unique : ℕ) (message : List ℕ) → HaveOrder s.lines unique → IsOrderAgain unique message
+pub asked_comes : (s : Session) (unique : ℕ) (message : List ℕ) → HaveOrder (s.heard ++ s.lines) unique → IsOrderAgain unique message
     → ComesAgain s message
 asked_comes s unique message h order =
     let waits : Bool = is_parked unique (state_after s.rules s.lines).view.parked in
     comes_by s unique message order
-    (ap (λ r. waits || has_all r 1) (order_recalled s.lines unique h) ∙ or_true waits)
+    (ap (λ r. waits || has_all r 1) (order_recalled (s.heard ++ s.lines) unique h) ∙ or_true waits)
 
 pub parked_comes : (s : Session) (unique : ℕ) (message : List ℕ)
     → is_parked unique (state_after s.rules s.lines).view.parked ≡ true → IsOrderAgain unique message → ComesAgain s message
 parked_comes s unique message waits order =
-    comes_by s unique message order (ap (λ b. b || has_all (recalled unique (recent s.lines)) 1) waits)
+    comes_by s unique message order (ap (λ b. b || has_all (recalled_in s unique) 1) waits)
 
-pub batch_comes : (s : Session) (unique : ℕ) (orders : List Order) (message : List ℕ) → HaveBatch s.lines unique orders
+pub batch_comes : (s : Session) (unique : ℕ) (orders : List Order) (message : List ℕ) → HaveBatch (s.heard ++ s.lines) unique orders
     → IsBatchAgain unique (length orders) message → ComesAgain s message
 batch_comes s unique orders message h batch =
     let waits : Bool = is_parked unique (state_after s.rules s.lines).view.parked in
@@ -179,7 +182,7 @@ batch_comes s unique orders message h batch =
       marked = batch.marked;
       stays = ap says_destroy batch.says;
       had = ap (λ says. is_had s unique (length (orders_in (incoming_by message says)))) batch.says
-          ∙ ap (λ r. waits || has_all r (length (forgets_in message))) (batch_recalled s.lines unique orders h)
+          ∙ ap (λ r. waits || has_all r (length (forgets_in message))) (batch_recalled (s.heard ++ s.lines) unique orders h)
           ∙ ap (λ b. waits || b) all ∙ or_true waits;
     }
 
@@ -202,7 +205,7 @@ flat_contains f (y ∷ xs) x a in_xs in_f =
     (λ tail. Contains-append_right (f y) (flat_map f xs) a (flat_contains f xs x a tail in_f))
     (Contains-append_cases (y ∷ []) xs x in_xs)
 
-pub reply_comes_again : (s : Session) (again : List Came) (c : Came) (told : Told) → HaveReply s.lines told
+pub reply_comes_again : (s : Session) (again : List Came) (c : Came) (told : Told) → HaveReply (s.heard ++ s.lines) told
     → Contains again c → IsOrderAgain told.unique c.message → Contains (replies_again s again) (spelling_of told)
 reply_comes_again s again c told h came order =
     let u : ℕ = told.unique in
@@ -210,8 +213,8 @@ reply_comes_again s again c told h came order =
     let one : f c ≡ spelling_of told ∷ [] =
     ap (λ m. reply_unmarked s m (incoming_by c.message (said c.message))) order.marked
     ∙ ap (λ says. reply_unmarked s (Some u) (incoming_by c.message says)) order.says
-    ∙ had_reply (is_parked u (state_after s.rules s.lines).view.parked) (recalled u (recent s.lines)) told
-    (replied_free s.rules s.lines told h) (reply_recalled s.lines told h) in
+    ∙ had_reply (is_parked u (state_after s.rules s.lines).view.parked) (recalled_in s u) told
+    (replied_free s.rules s.heard s.lines told h) (reply_recalled (s.heard ++ s.lines) told h) in
     flat_contains f again c (spelling_of told) came
     (subst (λ l. Contains l (spelling_of told)) (sym one) (0, omega arith, refl))
 

@@ -63,6 +63,7 @@ later_as_one first other one again later two plain =
     (later_goes (replies_again first again) first.replies other one later plain (record {
       alike = record {
         rules = ap (λ s. s.rules) two.resumed;
+        heard = ap (λ s. s.heard) two.resumed;
         handshake = ap (λ s. s.handshake) two.resumed;
         lines = two.lines;
       };

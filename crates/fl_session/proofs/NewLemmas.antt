@@ -1,6 +1,6 @@
 -- Messages that have uniques of their own are new, one after another.
 use Rattle.std.proofs.Common.{◌≡◌, ℕ, Bool, true, false, List, [], ◌∷◌, ◌++◌, map, Option, None, Some}
-use Rattle.std.proofs.Common.{sym, ap, subst, ◌∙◌, arith}
+use Rattle.std.proofs.Common.{sym, ap, subst, ◌∙◌, append_assoc, arith}
 use Rattle.std.specs.Prelude.{cond, if◌then◌else◌, ◌==◌, ◌≢◌, Result, Ok, Err}
 use Rattle.std.specs.List.{AllByRecursion, filter}
 use Rattle.std.proofs.lemmas.Bool.{eq-eqb, ne_eqb}
@@ -22,7 +22,7 @@ use Rattle.fl_order.specs.declared.refusal.Refusal.TheVariants.{Answer, Silent, 
 use Rattle.fl_order.specs.declared.told.Answer as answer
 use Rattle.fl_order.specs.declared.told.Told.{Told}
 use Rattle.fl_session.proofs.KnownLemmas.{nothing_unknown}
-use Rattle.fl_session.proofs.ParkedLemmas.{bit, counted_none, many, many_append, others_counted, replied_most}
+use Rattle.fl_session.proofs.ParkedLemmas.{bit, counted_none, later_counted, many, many_append, others_counted, replied_most}
 use Rattle.fl_session.proofs.RulesLemmas.{by_message}
 use Rattle.fl_session.specs.Again.{unmarked}
 use Rattle.fl_session.specs.Known.{AreMarked, HaveNothing, HaveOwnUniques}
@@ -112,14 +112,16 @@ pub tolds_nothing : (u : ℕ) (tolds : List Told) → AllOthers u tolds → Have
 tolds_nothing u [] others = tt
 tolds_nothing u (told ∷ tolds) others = (others.0, tolds_nothing u tolds others.1)
 
-order_apart : Settles → (u : ℕ) (s : Session) (refused : Bool) (order : Order) → order.unique ≢ u → HaveNothing u s.lines
-    → HaveNothing u (with_order s refused order).lines
-order_apart settles u s true order other none = none
-order_apart settles u s false order other none =
+order_apart : Settles → (u : ℕ) (heard : List Line) (s : Session) (refused : Bool) (order : Order) → order.unique ≢ u
+    → HaveNothing u (heard ++ s.lines) → HaveNothing u (heard ++ (with_order s refused order).lines)
+order_apart settles u heard s true order other none = none
+order_apart settles u heard s false order other none =
     let p : Snapshot = snapshot_of (state_after s.rules s.lines) in
-    let free : many u p.view.parked ≡ 0 = counted_none u s.rules s.lines (others_counted u 0 s.lines none) in
-    both_nothing u s.lines (step_lines 0 order (replies p order)) none
-    (other, tolds_nothing u (replies p order) (replies_others settles u p order other free))
+    let free : many u p.view.parked ≡ 0 =
+    counted_none u s.rules s.lines (later_counted u heard s.lines (others_counted u 0 (heard ++ s.lines) none)) in
+    subst (HaveNothing u) (append_assoc heard s.lines (step_lines 0 order (replies p order)))
+    (both_nothing u (heard ++ s.lines) (step_lines 0 order (replies p order)) none
+    (other, tolds_nothing u (replies p order) (replies_others settles u p order other free)))
 
 -- this stays so of a session's lines as it takes orders of other uniques
 abbrev pub IsKept : ℕ → (List Line → Type 0) → Type 0
@@ -194,19 +196,19 @@ message_apart u P kept s c lacks other so =
 
 -- ---- all of them
 
-pub still_own : Settles → (s : Session) (c : Came) (came : List Came) → s.resends ≡ false
-    → AllByRecursion (λ (d : Came). unique_of d.message ≢ unique_of c.message) came → HaveOwnUniques s.lines came
-    → HaveOwnUniques (with_message s c).lines came
-still_own settles s c [] lacks others own = tt
-still_own settles s c (d ∷ came) lacks others own = (
-  message_apart (unique_of d.message) (HaveNothing (unique_of d.message)) (order_apart settles (unique_of d.message)) s c lacks
-      (λ same. others.0 (sym same)) own.0,
+pub still_own : Settles → (heard : List Line) (s : Session) (c : Came) (came : List Came) → s.resends ≡ false
+    → AllByRecursion (λ (d : Came). unique_of d.message ≢ unique_of c.message) came → HaveOwnUniques (heard ++ s.lines) came
+    → HaveOwnUniques (heard ++ (with_message s c).lines) came
+still_own settles heard s c [] lacks others own = tt
+still_own settles heard s c (d ∷ came) lacks others own = (
+  message_apart (unique_of d.message) (λ lines. HaveNothing (unique_of d.message) (heard ++ lines))
+      (order_apart settles (unique_of d.message) heard) s c lacks (λ same. others.0 (sym same)) own.0,
   own.1,
-  still_own settles s c came lacks others.1 own.2,
+  still_own settles heard s c came lacks others.1 own.2,
 )
 
-pub own_new : Settles → (s : Session) (came marked : List Came) → s.resends ≡ false → HaveOwnUniques s.lines came
-    → AreMarked came marked → AreNew s came marked
+pub own_new : Settles → (s : Session) (came marked : List Came) → s.resends ≡ false
+    → HaveOwnUniques (s.heard ++ s.lines) came → AreMarked came marked → AreNew s came marked
 own_new settles s [] [] lacks own same = tt
 own_new settles s [] (m ∷ marked) lacks own same = same
 own_new settles s (c ∷ came) [] lacks own same = same
@@ -214,6 +216,7 @@ own_new settles s (c ∷ came) (m ∷ marked) lacks own same = (
   same.0,
   same.1,
   nothing_unknown s (unique_of c.message) own.0,
-  own_new settles (with_message s c) came marked ((by_message s c).resends ∙ lacks) (still_own settles s c came lacks own.1 own.2)
-      same.2,
+  own_new settles (with_message s c) came marked ((by_message s c).resends ∙ lacks)
+      (subst (λ h. HaveOwnUniques (h ++ (with_message s c).lines) came) (sym (by_message s c).heard)
+      (still_own settles s.heard s c came lacks own.1 own.2)) same.2,
 )

@@ -8,7 +8,6 @@ use Rattle.std.proofs.lemmas.List.{length-map}
 use borrow.Author.Tests.{leb-true}
 use Rattle.fl_core.specs.Step.{replies_in}
 use Rattle.fl_desk.specs.Replay.{state_after}
-use Rattle.fl_history.specs.Recent.{recalled, recent}
 use Rattle.fl_history.specs.declared.recent.Recalled.{Recalled}
 use Rattle.fl_history.specs.declared.recent.Recalled.TheVariants as recall
 use Rattle.fl_order.specs.Order.{kind_of}
@@ -17,7 +16,7 @@ use Rattle.fl_session.proofs.RulesLemmas.{by_message}
 use Rattle.fl_session.specs.Again.{incoming_under, order_under, unmarked}
 use Rattle.fl_session.specs.AsOne.{AreAsOne, IsSentAgain, replies_again, reply_again, reply_in, reply_unmarked}
 use Rattle.fl_session.specs.Once.{AllComeAgain, AreNew, ComesAgain, IsUnknown, SaysTheSame, has_all, is_had, orders_in, resumed, under_way}
-use Rattle.fl_session.specs.Session.{Came, Session, opening_session, session_from, session_of, with_again, with_either, with_incoming}
+use Rattle.fl_session.specs.Session.{Came, Session, opening_session, recalled_in, session_from, session_of, with_again, with_either, with_incoming}
 use Rattle.fl_session.specs.Session.{with_message, with_order, with_orders, with_orders_again, with_recalled, with_response}
 use Rattle.fl_transport.specs.Handshake.{advanced, incoming_by, incoming_of, says_destroy}
 use Rattle.fl_transport.specs.Response.{bytes_of, lost}
@@ -31,14 +30,20 @@ use Rattle.fl_wire.specs.Layout.{unique_of}
 use Rattle.fl_wire.specs.Says.{said}
 use Rattle.fl_wire.specs.Spell.{spelling_of}
 
--- two sessions that are as far, and have one history
+-- two sessions that are as far, heard the same before their lines, and have one history
 pub record AreAlike (s t : Session) : Type 0 where
   pub rules : s.rules ≡ t.rules
+  pub heard : s.heard ≡ t.heard
   pub handshake : s.handshake ≡ t.handshake
   pub lines : s.lines ≡ t.lines
 
 alike_trans : (s t u : Session) → AreAlike s t → AreAlike t u → AreAlike s u
-alike_trans s t u a b = record { rules = a.rules ∙ b.rules; handshake = a.handshake ∙ b.handshake; lines = a.lines ∙ b.lines }
+alike_trans s t u a b = record {
+  rules = a.rules ∙ b.rules;
+  heard = a.heard ∙ b.heard;
+  handshake = a.handshake ∙ b.handshake;
+  lines = a.lines ∙ b.lines;
+}
 
 alike_by : (s t u v : Session) → s ≡ u → t ≡ v → AreAlike u v → AreAlike s t
 alike_by s t u v first second a = rw (first, second) a
@@ -66,9 +71,10 @@ grown a b s t now after more same g alike first second e = record {
 
 order_alike : (s t : Session) (refused : Bool) (order : Order) → AreAlike s t
     → AreAlike (with_order s refused order) (with_order t refused order)
-order_alike s t true order a = record { rules = a.rules; handshake = a.handshake; lines = a.lines }
+order_alike s t true order a = record { rules = a.rules; heard = a.heard; handshake = a.handshake; lines = a.lines }
 order_alike s t false order a = record {
   rules = a.rules;
+  heard = a.heard;
   handshake = a.handshake;
   lines = λ i. (with_order (record s { rules = a.rules i; lines = a.lines i }) false order).lines;
 }
@@ -96,27 +102,27 @@ orders_go a b s t (order ∷ orders) (first ∷ refused) g =
 
 kept_by : (s : Session) (found : Recalled) (orders : List Order) (refused : List Bool) → has_all found (length orders) ≡ true
     → AreAlike (with_recalled s found orders refused) s
-kept_by s (recall.Told told) orders refused e = record { rules = refl; handshake = refl; lines = refl }
+kept_by s (recall.Told told) orders refused e = record { rules = refl; heard = refl; handshake = refl; lines = refl }
 kept_by s (recall.Asked count) orders refused e =
     let none : drop count orders ≡ [] = drop_of_length-le orders (leb-true (length orders) count e) in
-    subst (λ os. AreAlike (with_orders s os refused) s) (sym none) (record { rules = refl; handshake = refl; lines = refl })
+    subst (λ os. AreAlike (with_orders s os refused) s) (sym none) (record { rules = refl; heard = refl; handshake = refl; lines = refl })
 
 had_by : (waits : Bool) (s : Session) (found : Recalled) (orders : List Order) (refused : List Bool)
     → (waits || has_all found (length orders)) ≡ true → AreAlike (if waits then s else with_recalled s found orders refused) s
-had_by true s found orders refused e = record { rules = refl; handshake = refl; lines = refl }
+had_by true s found orders refused e = record { rules = refl; heard = refl; handshake = refl; lines = refl }
 had_by false s found orders refused e = kept_by s found orders refused e
 
 had : (s : Session) (unique : ℕ) (orders : List Order) (refused : List Bool) → is_had s unique (length orders) ≡ true
     → AreAlike (with_orders_again s unique orders refused) s
 had s unique orders refused e =
-    had_by (is_parked unique (state_after s.rules s.lines).view.parked) s (recalled unique (recent s.lines)) orders refused e
+    had_by (is_parked unique (state_after s.rules s.lines).view.parked) s (recalled_in s unique) orders refused e
 
 again_had : (s : Session) (unique : ℕ) (refused : List Bool) (it : Incoming) → is_had s unique (length (orders_in it)) ≡ true
     → AreAlike (with_again s unique refused (incoming_under unique it)) s
 again_had s unique refused (incoming.Order order) e = had s unique (order_under unique order ∷ []) refused e
 again_had s unique refused (incoming.Batch orders) e =
     had s unique (map (order_under unique) orders) refused (ap (is_had s unique) (length-map orders (order_under unique)) ∙ e)
-again_had s unique refused (incoming.Response response) e = record { rules = refl; handshake = refl; lines = refl }
+again_had s unique refused (incoming.Response response) e = record { rules = refl; heard = refl; handshake = refl; lines = refl }
 
 -- ---- what is sent of them
 
@@ -133,10 +139,10 @@ sent_by false s (recall.Asked count) orders refused e =
 again_sent : (s : Session) (unique : ℕ) (refused : List Bool) (it : Incoming) → is_had s unique (length (orders_in it)) ≡ true
     → (with_again s unique refused (incoming_under unique it)).replies ≡ s.replies ++ reply_again s unique it
 again_sent s unique refused (incoming.Order order) e =
-    sent_by (is_parked unique (state_after s.rules s.lines).view.parked) s (recalled unique (recent s.lines))
+    sent_by (is_parked unique (state_after s.rules s.lines).view.parked) s (recalled_in s unique)
     (order_under unique order ∷ []) refused e
 again_sent s unique refused (incoming.Batch orders) e =
-    sent_by (is_parked unique (state_after s.rules s.lines).view.parked) s (recalled unique (recent s.lines))
+    sent_by (is_parked unique (state_after s.rules s.lines).view.parked) s (recalled_in s unique)
     (map (order_under unique) orders) refused (ap (is_had s unique) (length-map orders (order_under unique)) ∙ e)
 again_sent s unique refused (incoming.Response response) e = refl
 
@@ -163,6 +169,7 @@ one_again s c knows far again =
     let now : Session = record s { handshake = moved c.message } in
     let same : AreAlike now s = record {
       rules = refl;
+      heard = refl;
       handshake = ap (λ over. record { agreed = true; over = over }) again.stays ∙ sym far;
       lines = refl;
     } in
@@ -184,12 +191,11 @@ one_sent s c knows far again =
     ∙ ap (λ m. s.replies ++ reply_unmarked s m it) (sym again.marked)
 
 sent_alike : (s t : Session) (came : List Came) → AreAlike t s → replies_again t came ≡ replies_again s came
-sent_alike s t came a = λ i. replies_again (record s { rules = a.rules i; lines = a.lines i }) came
+sent_alike s t came a = λ i. replies_again (record s { rules = a.rules i; heard = a.heard i; lines = a.lines i }) came
 
 still_had : (s t : Session) (unique count : ℕ) → AreAlike t s → is_had s unique count ≡ true → is_had t unique count ≡ true
 still_had s t unique count a e =
-    (λ i. is_parked unique (state_after (a.rules i) (a.lines i)).view.parked || has_all (recalled unique (recent (a.lines i))) count)
-    ∙ e
+    (λ i. is_had (record s { rules = a.rules i; heard = a.heard i; lines = a.lines i }) unique count) ∙ e
 
 still_again : (s t : Session) (came : List Came) → AreAlike t s → AllComeAgain s came → AllComeAgain t came
 still_again s t [] a all = tt
@@ -212,7 +218,7 @@ pub record Stays (s : Session) (came : List Came) (t : Session) : Type 0 where
 pub again_stays : (s : Session) (came : List Came) → s.resends ≡ true → s.handshake ≡ under_way → AllComeAgain s came
     → Stays s came (session_from s came)
 again_stays s [] knows far all = record {
-  alike = record { rules = refl; handshake = refl; lines = refl };
+  alike = record { rules = refl; heard = refl; handshake = refl; lines = refl };
   knows = knows;
   sent = sym (append-nil s.replies);
 }
@@ -238,17 +244,17 @@ pub response_goes : (a b : List (List ℕ)) (s t : Session) (response : Response
     → GoAlike a b (with_response s response) (with_response t response)
 response_goes a b s t response g =
     grown a b s t (with_response s response) (with_response t response) (bytes_of response) _ g
-    (record { rules = g.alike.rules; handshake = g.alike.handshake; lines = g.alike.lines }) refl refl refl
+    (record { rules = g.alike.rules; heard = g.alike.heard; handshake = g.alike.handshake; lines = g.alike.lines }) refl refl refl
 
 new_orders : (a b : List (List ℕ)) (s t : Session) (unique : ℕ) (orders : List Order) (refused : List Bool) → GoAlike a b s t
     → IsUnknown t unique → GoAlike a b (with_orders_again s unique orders refused) (with_orders t orders refused)
 new_orders a b s t unique orders refused g unknown =
     let free : is_parked unique (state_after s.rules s.lines).view.parked ≡ false =
     (λ i. is_parked unique (state_after (g.alike.rules i) (g.alike.lines i)).view.parked) ∙ unknown.free in
-    let none : recalled unique (recent s.lines) ≡ recall.Asked 0 =
-    ap (λ l. recalled unique (recent l)) g.alike.lines ∙ unknown.unsaid in
+    let none : recalled_in s unique ≡ recall.Asked 0 =
+    (λ i. recalled_in (record s { heard = g.alike.heard i; lines = g.alike.lines i }) unique) ∙ unknown.unsaid in
     goes_by a b _ (with_orders t orders refused) (with_orders s orders refused) (with_orders t orders refused)
-    (new_by (is_parked unique (state_after s.rules s.lines).view.parked) (recalled unique (recent s.lines)) s orders refused free none)
+    (new_by (is_parked unique (state_after s.rules s.lines).view.parked) (recalled_in s unique) s orders refused free none)
     refl (orders_go a b s t orders refused g)
 
 new_incoming : (a b : List (List ℕ)) (s t : Session) (unique : ℕ) (refused : List Bool) (it : Incoming) → GoAlike a b s t
@@ -262,7 +268,7 @@ new_incoming a b s t unique refused (incoming.Response response) g unknown =
 pub moved_alike : (a b : List (List ℕ)) (s t : Session) (handshake : Handshake) → GoAlike a b s t
     → GoAlike a b (record s { handshake = handshake }) (record t { handshake = handshake })
 moved_alike a b s t handshake g = record {
-  alike = record { rules = g.alike.rules; handshake = refl; lines = g.alike.lines };
+  alike = record { rules = g.alike.rules; heard = g.alike.heard; handshake = refl; lines = g.alike.lines };
   rest = g.rest;
   left = g.left;
   right = g.right;
@@ -344,7 +350,7 @@ pub again_alike : (first : Session) (again : List Came) → first.handshake ≡ 
     → GoAlike (replies_again first again) first.replies (session_from (resumed first) again) first
 again_alike first again far all =
     let s : Session = resumed first in
-    let same : AreAlike s first = record { rules = refl; handshake = refl; lines = refl } in
+    let same : AreAlike s first = record { rules = refl; heard = refl; handshake = refl; lines = refl } in
     let stays = again_stays s again refl far (still_again first s again same all) in
     record {
       alike = alike_trans (session_from s again) s first stays.alike same;
@@ -362,6 +368,7 @@ as_one first other one again g = record {
   of_other = g.left;
   resumed = λ i. record (resumed other) {
     rules = g.alike.rules i;
+    heard = g.alike.heard i;
     lines = g.alike.lines i;
     handshake = g.alike.handshake i;
   };

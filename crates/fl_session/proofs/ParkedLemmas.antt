@@ -1,7 +1,7 @@
 -- How many requests of a unique lines can have parked.
 use Rattle.std.proofs.Common.{◌≡◌, ℕ, ◌+◌, ◌-◌, ◌≤◌, Bool, true, false, ◌||◌, List, [], ◌∷◌, ◌++◌, Option, None, Some}
 use Rattle.std.proofs.Common.{refl, sym, ap, subst, ◌∙◌, arith}
-use Rattle.std.specs.Prelude.{fold, if◌then◌else◌, option_map, ◌==◌, ◌≢◌, Result}
+use Rattle.std.specs.Prelude.{fold, if◌then◌else◌, option_map, ◌==◌, Result}
 use Rattle.std.proofs.lemmas.Bool.{eq-eqb, eqb-true, ne_eqb}
 use Rattle.std.proofs.lemmas.Grind.{fold-append}
 use Rattle.fl_core.specs.Effects.{Effect, at_once, by_reply, followed_by, later, later_to, replied, request_of, told_first, waited_for, with_waiter}
@@ -266,10 +266,33 @@ asked_one u worker order named = ap (λ b. 0 + bit b) (eq-eqb order.unique u nam
 pub told_one : (u : ℕ) (told : Told) → told.unique ≡ u → counted u 1 (line.Told told) ≡ 0
 told_one u told own = ap (λ b. 1 - bit b) (eq-eqb told.unique u own) ∙ omega arith
 
+-- if more can be parked before a line, no fewer can be behind it
+line_least : (u a b : ℕ) (l : Line) → a ≤ b → counted u a l ≤ counted u b l
+line_least u a b (line.Asked worker order) le = omega (arith, le)
+line_least u a b (line.Told told) le = omega (arith, le)
+line_least u a b (line.State (state.Head head)) le = le
+line_least u a b (line.State (state.Part (part.Node number lookups linked mode uid gid name))) le = le
+line_least u a b (line.State (state.Part (part.File fh node))) le = le
+line_least u a b (line.State (state.Part (part.Lock node owner start end write pid flock))) le = le
+line_least u a b (line.State (state.Part (part.Wait unique node ask))) le = omega (arith, le)
+line_least u a b (line.State state.Go) le = le
+
+lines_least : (u a b : ℕ) (lines : List Line) → a ≤ b → fold (counted u) a lines ≤ fold (counted u) b lines
+lines_least u a b [] le = le
+lines_least u a b (l ∷ lines) le = lines_least u (counted u a l) (counted u b l) lines (line_least u a b l le)
+
+-- if all lines leave none, the last of them alone leave none
+pub later_counted : (u : ℕ) (front back : List Line) → fold (counted u) 0 (front ++ back) ≡ 0 → fold (counted u) 0 back ≡ 0
+later_counted u front back e =
+    let least : 0 ≤ fold (counted u) 0 front = omega arith in
+    let le = lines_least u 0 (fold (counted u) 0 front) back least in
+    let none : fold (counted u) (fold (counted u) 0 front) back ≡ 0 = sym (fold-append (counted u) 0 front back) ∙ e in
+    omega (arith, le, none)
+
 -- an order and its reply leave none
-pub replied_free : (rules : Rules) (lines : List Line) (told : Told) → HaveReply lines told
+pub replied_free : (rules : Rules) (heard lines : List Line) (told : Told) → HaveReply (heard ++ lines) told
     → is_parked told.unique (state_after rules lines).view.parked ≡ false
-replied_free rules lines told h =
+replied_free rules heard lines told h =
     let u : ℕ = told.unique in
     let ask : Line = line.Asked h.worker h.order in
     let tell : Line = line.Told told in
@@ -279,8 +302,8 @@ replied_free rules lines told h =
     ∙ ap (λ n. fold (counted u) n h.between) (asked_one u h.worker h.order h.named)
     ∙ others_counted u 1 h.between h.none_between in
     counted_free u rules lines
-    (ap (fold (counted u) 0) h.stand
+    (later_counted u heard lines (ap (fold (counted u) 0) h.stand
     ∙ fold-append (counted u) 0 (h.before ++ ask ∷ h.between) (tell ∷ h.after)
     ∙ ap (λ n. fold (counted u) n (tell ∷ h.after)) front
     ∙ ap (λ n. fold (counted u) n h.after) (told_one u told refl)
-    ∙ others_counted u 0 h.after h.none_after)
+    ∙ others_counted u 0 h.after h.none_after))

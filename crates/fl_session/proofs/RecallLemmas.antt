@@ -6,7 +6,8 @@ use Rattle.std.specs.List.{AllByRecursion}
 use Rattle.std.proofs.lemmas.Bool.{eq-eqb}
 use Rattle.std.proofs.lemmas.Grind.{fold-append}
 use Rattle.std.proofs.lemmas.List.{drop-append-le, length-map}
-use Rattle.fl_history.specs.Recent.{recalled, recent, with_ask, with_line}
+use Rattle.std.proofs.lemmas.List.Elements.{filter-append}
+use Rattle.fl_history.specs.Recent.{is_spoken, recalled, recent, spoken, with_ask, with_line}
 use Rattle.fl_history.specs.declared.history.Line.{Line}
 use Rattle.fl_history.specs.declared.history.Line.TheVariants as line
 use Rattle.fl_history.specs.declared.recent.Recalled.{Recalled}
@@ -62,6 +63,40 @@ later_unsaid unique (suc m) zero lines le e = absurd (omega (arith, le))
 later_unsaid unique (suc m) (suc n) [] le e = refl
 later_unsaid unique (suc m) (suc n) (l ∷ lines) le e = later_unsaid unique m n lines (omega (arith, le)) e
 
+-- ---- lines of heads say nothing
+
+pub spoken_said : (unique : ℕ) (before : Recalled) (lines : List Line)
+    → fold (with_line unique) before (spoken lines) ≡ fold (with_line unique) before lines
+spoken_said unique before [] = refl
+spoken_said unique before (line.Asked worker order ∷ lines) =
+    spoken_said unique (with_line unique before (line.Asked worker order)) lines
+spoken_said unique before (line.Told told ∷ lines) = spoken_said unique (with_line unique before (line.Told told)) lines
+spoken_said unique before (line.State state ∷ lines) = spoken_said unique before lines
+
+pub few_spoken : (lines : List Line) → length (spoken lines) ≤ length lines
+few_spoken [] = omega arith
+few_spoken (line.Asked worker order ∷ lines) = let few = few_spoken lines in omega (arith, few)
+few_spoken (line.Told told ∷ lines) = let few = few_spoken lines in omega (arith, few)
+few_spoken (line.State state ∷ lines) = let few = few_spoken lines in omega (arith, few)
+
+pub spoken_long : (front back : List Line)
+    → length (spoken (front ++ back)) ≡ length (spoken front) + length (spoken back)
+spoken_long front back =
+    ap length (filter-append is_spoken front back) ∙ length-append (spoken front) (spoken back)
+
+-- if the second lines are among the last, these say what the last of the first ones say, and then what the second say
+pub recent_split : (unique : ℕ) (front back : List Line) → length (spoken back) ≤ 65536
+    → recalled unique (recent (front ++ back))
+    ≡ fold (with_line unique) (recalled unique (drop (length (spoken (front ++ back)) - 65536) (spoken front))) back
+recent_split unique front back few =
+    let n : ℕ = length (spoken (front ++ back)) - 65536 in
+    let long = spoken_long front back in
+    let within : n ≤ length (spoken front) = omega (arith, long, few) in
+    ap (λ l. recalled unique (drop n l)) (filter-append is_spoken front back)
+    ∙ ap (recalled unique) (drop-append-le n (spoken front) (spoken back) within)
+    ∙ fold-append (with_line unique) (recall.Asked 0) (drop n (spoken front)) (spoken back)
+    ∙ spoken_said unique (recalled unique (drop n (spoken front))) back
+
 -- ---- orders of one unique that have no replies
 
 -- lines that ask for these orders
@@ -82,12 +117,13 @@ pub asks_recalled : (unique : ℕ) (lines : List Line) (orders : List Order)
     → recalled unique (recent lines) ≡ recall.Asked 0
     → recalled unique (recent (lines ++ asks orders)) ≡ recall.Asked (length orders)
 asks_recalled unique lines orders all few unsaid =
-    let n : ℕ = length (lines ++ asks orders) - 65536 in
-    let long : length (lines ++ asks orders) ≡ length lines + length orders =
-    length-append lines (asks orders) ∙ ap (λ k. length lines + k) (length-map orders (λ order. line.Asked 0 order)) in
-    let within : n ≤ length lines = omega (arith, long, few) in
-    let later : length lines - 65536 ≤ n = omega (arith, long) in
-    ap (recalled unique) (drop-append-le n lines (asks orders) within)
-    ∙ fold-append (with_line unique) (recall.Asked 0) (drop n lines) (asks orders)
-    ∙ ap (λ b. fold (with_line unique) b (asks orders)) (later_unsaid unique (length lines - 65536) n lines later unsaid)
+    let n : ℕ = length (spoken (lines ++ asks orders)) - 65536 in
+    let long = spoken_long lines (asks orders) in
+    let asked : length (asks orders) ≡ length orders = length-map orders (λ order. line.Asked 0 order) in
+    let spoken_few = few_spoken (asks orders) in
+    let within : length (spoken (asks orders)) ≤ 65536 = omega (arith, asked, spoken_few, few) in
+    let later : length (spoken lines) - 65536 ≤ n = omega (arith, long) in
+    recent_split unique lines (asks orders) within
+    ∙ ap (λ b. fold (with_line unique) b (asks orders))
+    (later_unsaid unique (length (spoken lines) - 65536) n (spoken lines) later unsaid)
     ∙ asks_counted unique 0 orders all ∙ ap recall.Asked (omega arith)

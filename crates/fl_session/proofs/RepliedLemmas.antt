@@ -11,7 +11,7 @@ use Rattle.fl_core.specs.Step.{replies}
 use Rattle.fl_counter.specs.Answered.{step_lines}
 use Rattle.fl_desk.specs.Legal.{nothing}
 use Rattle.fl_desk.specs.Replay.{AllOthers, state_after}
-use Rattle.fl_history.specs.Recent.{recalled, recent, with_line}
+use Rattle.fl_history.specs.Recent.{recalled, with_line}
 use Rattle.fl_history.specs.declared.history.Line.{Line}
 use Rattle.fl_history.specs.declared.history.Line.TheVariants as line
 use Rattle.fl_history.specs.declared.recent.Recalled.TheVariants as recall
@@ -19,19 +19,20 @@ use Rattle.fl_order.specs.OpKind.{kind_of_opcode}
 use Rattle.fl_order.specs.declared.order.Order.{Order}
 use Rattle.fl_order.specs.declared.told.Told.{Told}
 use Rattle.fl_session.proofs.BatchLemmas.{session_sound}
-use Rattle.fl_session.proofs.ClientLemmas.{AreOf, IsSoOf, IsStill, none_refused, own_front, said_is, still_so}
+use Rattle.fl_session.proofs.ClientLemmas.{AreOf, IsSoOf, IsStill, none_heard, none_refused, own_alone, own_front, said_is, still_so}
 use Rattle.fl_session.proofs.KnownLemmas.{flat_contains, had_reply, head_is, others_said, told_said}
 use Rattle.fl_session.proofs.NewLemmas.{IsKept, Settles, both_nothing, replies_others, tolds_nothing}
 use Rattle.fl_session.proofs.OneReplyLemmas.{HasReplyTo, step_once, told_once}
 use Rattle.fl_session.proofs.OnceLemmas.{moved, plain_met, resends_from}
+use Rattle.fl_session.proofs.RulesLemmas.{heard_from}
 use Rattle.fl_session.proofs.ParkedLemmas.{asked_one, bit, counted, counted_free, counted_most, counted_none, many, others_counted, told_one}
 use Rattle.fl_session.specs.Again.{incoming_under, unmarked}
 use Rattle.fl_session.specs.AsOne.{replies_again, reply_again, reply_had, reply_unmarked}
 use Rattle.fl_session.specs.Client.{AreOnesAgain, HasTaken, IsNear, IsOneAgain}
 use Rattle.fl_session.specs.Known.{HaveNothing, IsOf}
 use Rattle.fl_session.specs.Once.{SaysTheSame}
-use Rattle.fl_session.specs.Session.{Came, Session, opening_session, session_from, session_of, with_incoming, with_message, with_order}
-use Rattle.fl_session.specs.Session.{with_orders}
+use Rattle.fl_session.specs.Session.{Came, Session, opening_session, recalled_in, session_from, session_of, with_incoming}
+use Rattle.fl_session.specs.Session.{with_message, with_order, with_orders}
 use Rattle.fl_transport.specs.Handshake.{incoming_by}
 use Rattle.fl_transport.specs.declared.handshake.Incoming.{Incoming}
 use Rattle.fl_transport.specs.declared.handshake.Incoming.TheVariants as incoming
@@ -282,10 +283,10 @@ is_last rules lines told (inr h) in_it =
           ∙ others_said u (recall.Told told) h.after h.none_after;
     }
 
-near_told : (s : Session) (told : Told) → IsLast s.rules s.lines told → IsNear s told.unique
-    → recalled told.unique (recent s.lines) ≡ recall.Told told
-near_told s told last (inl waits) = let both : true ≡ false = sym waits ∙ last.free in absurd (cc both)
-near_told s told last (inr same) = same ∙ last.last
+near_told : (s : Session) (told : Told) → s.heard ≡ [] → IsLast s.rules s.lines told → IsNear s told.unique
+    → recalled_in s told.unique ≡ recall.Told told
+near_told s told none last (inl waits) = let both : true ≡ false = sym waits ∙ last.free in absurd (cc both)
+near_told s told none last (inr same) = same ∙ ap (λ h. recalled told.unique (h ++ s.lines)) none ∙ last.last
 
 -- the message that comes again, among those that were taken
 each_near : (s : Session) (taken again : List Came) (m : Came)
@@ -325,7 +326,8 @@ told_again settles rules early taken again unread c m order told has ones in_tak
 
     is : IsStill c (HasOne (unique_of c.message)) first.lines
     is = still_so settles s taken c (HasOne (unique_of c.message)) (resends_from (opening_session rules) early) has.began
-        (session_sound (opening_session rules) early nothing) (own_front s.lines taken unread has.own) has.far has.unrefused
+        (session_sound (opening_session rules) early nothing)
+        (own_front s.lines taken unread (own_alone s (taken ++ unread) (none_heard rules early) has.own)) has.far has.unrefused
         in_taken (one_kept settles (unique_of c.message)) (message_one settles c order says)
 
     last : IsLast first.rules first.lines told
@@ -347,7 +349,8 @@ told_again settles rules early taken again unread c m order told has ones in_tak
 
         sent : reply_had first told.unique ≡ spelling_of told ∷ []
         sent = had_reply (is_parked told.unique (state_after first.rules first.lines).view.parked)
-            (recalled told.unique (recent first.lines)) told last.free (near_told first told last near)
+            (recalled_in first told.unique) told last.free
+            (near_told first told (heard_from s taken ∙ none_heard rules early) last near)
 
         by_order : (it : Incoming) → incoming_under u it ≡ incoming.Order order → reply_again first told.unique it ≡ spelling_of told ∷ []
         by_order (incoming.Order other) e = sent

@@ -1,14 +1,13 @@
--- What stays of a session from message to message: its rules, whether it knows messages that are sent again, and how
--- far the messages alone bring it.
+-- What stays of a session from message to message: its rules, what it heard before its lines, whether it knows messages
+-- that are sent again, and how far the messages alone bring it.
 use Rattle.std.proofs.Common.{◌≡◌, ℕ, Bool, true, false, List, [], ◌∷◌, drop, Option, None, Some, refl, ap, ◌∙◌}
 use Rattle.std.specs.Prelude.{fold, if◌then◌else◌}
 use Rattle.fl_desk.specs.Replay.{state_after}
-use Rattle.fl_history.specs.Recent.{recalled, recent}
 use Rattle.fl_history.specs.declared.recent.Recalled.{Recalled}
 use Rattle.fl_history.specs.declared.recent.Recalled.TheVariants as recall
 use Rattle.fl_order.specs.declared.order.Order.{Order}
 use Rattle.fl_session.specs.Again.{incoming_under, unmarked}
-use Rattle.fl_session.specs.Session.{Came, Session, messages_of, session_from}
+use Rattle.fl_session.specs.Session.{Came, Session, messages_of, recalled_in, session_from}
 use Rattle.fl_session.specs.Session.{with_again, with_either, with_incoming, with_message, with_order, with_orders}
 use Rattle.fl_session.specs.Session.{with_orders_again, with_recalled}
 use Rattle.fl_transport.specs.Handshake.{advanced, handshake_of, incoming_of, opening}
@@ -20,6 +19,7 @@ use Rattle.fl_wire.specs.Layout.{unique_of}
 -- these are the same in both
 pub record IsAlike (s t : Session) : Type 0 where
   pub rules : s.rules ≡ t.rules
+  pub heard : s.heard ≡ t.heard
   pub resends : s.resends ≡ t.resends
   pub handshake : s.handshake ≡ t.handshake
 
@@ -27,16 +27,17 @@ alike_on : (s t u : Session) → IsAlike s t → IsAlike t u → IsAlike s u
 alike_on s t u first second =
     record {
       rules = first.rules ∙ second.rules;
+      heard = first.heard ∙ second.heard;
       resends = first.resends ∙ second.resends;
       handshake = first.handshake ∙ second.handshake;
     }
 
 pub by_order : (s : Session) (refused : Bool) (order : Order) → IsAlike (with_order s refused order) s
-by_order s true order = record { rules = refl; resends = refl; handshake = refl }
-by_order s false order = record { rules = refl; resends = refl; handshake = refl }
+by_order s true order = record { rules = refl; heard = refl; resends = refl; handshake = refl }
+by_order s false order = record { rules = refl; heard = refl; resends = refl; handshake = refl }
 
-by_orders : (s : Session) (orders : List Order) (refused : List Bool) → IsAlike (with_orders s orders refused) s
-by_orders s [] refused = record { rules = refl; resends = refl; handshake = refl }
+pub by_orders : (s : Session) (orders : List Order) (refused : List Bool) → IsAlike (with_orders s orders refused) s
+by_orders s [] refused = record { rules = refl; heard = refl; resends = refl; handshake = refl }
 by_orders s (order ∷ orders) [] =
     alike_on _ _ s (by_orders (with_order s false order) orders []) (by_order s false order)
 by_orders s (order ∷ orders) (first ∷ refused) =
@@ -45,11 +46,11 @@ by_orders s (order ∷ orders) (first ∷ refused) =
 by_incoming : (s : Session) (refused : List Bool) (it : Incoming) → IsAlike (with_incoming s refused it) s
 by_incoming s refused (incoming.Order order) = by_orders s (order ∷ []) refused
 by_incoming s refused (incoming.Batch orders) = by_orders s orders refused
-by_incoming s refused (incoming.Response response) = record { rules = refl; resends = refl; handshake = refl }
+by_incoming s refused (incoming.Response response) = record { rules = refl; heard = refl; resends = refl; handshake = refl }
 
 by_recalled : (s : Session) (r : Recalled) (orders : List Order) (refused : List Bool)
     → IsAlike (with_recalled s r orders refused) s
-by_recalled s (recall.Told told) orders refused = record { rules = refl; resends = refl; handshake = refl }
+by_recalled s (recall.Told told) orders refused = record { rules = refl; heard = refl; resends = refl; handshake = refl }
 by_recalled s (recall.Asked count) orders refused = by_orders s (drop count orders) refused
 
 by_orders_again : (s : Session) (unique : ℕ) (orders : List Order) (refused : List Bool)
@@ -57,16 +58,16 @@ by_orders_again : (s : Session) (unique : ℕ) (orders : List Order) (refused : 
 by_orders_again s unique orders refused = go (is_parked unique (state_after s.rules s.lines).view.parked)
   where
     r : Recalled
-    r = recalled unique (recent s.lines)
+    r = recalled_in s unique
 
     go : (waits : Bool) → IsAlike (if waits then s else with_recalled s r orders refused) s
-    go true = record { rules = refl; resends = refl; handshake = refl }
+    go true = record { rules = refl; heard = refl; resends = refl; handshake = refl }
     go false = by_recalled s r orders refused
 
 by_again : (s : Session) (unique : ℕ) (refused : List Bool) (it : Incoming) → IsAlike (with_again s unique refused it) s
 by_again s unique refused (incoming.Order order) = by_orders_again s unique (order ∷ []) refused
 by_again s unique refused (incoming.Batch orders) = by_orders_again s unique orders refused
-by_again s unique refused (incoming.Response response) = record { rules = refl; resends = refl; handshake = refl }
+by_again s unique refused (incoming.Response response) = record { rules = refl; heard = refl; resends = refl; handshake = refl }
 
 by_either : (s : Session) (marked : Option ℕ) (refused : List Bool) (it : Incoming)
     → IsAlike (with_either s marked refused it) s
@@ -76,6 +77,7 @@ by_either s (Some unique) refused it = by_again s unique refused (incoming_under
 -- what one message more leaves, of a session that is over or not
 pub record IsMoved (s now : Session) (message : List ℕ) : Type 0 where
   pub rules : now.rules ≡ s.rules
+  pub heard : now.heard ≡ s.heard
   pub resends : now.resends ≡ s.resends
   pub handshake : now.handshake ≡ advanced s.handshake message
 
@@ -91,9 +93,10 @@ by_message s c = go s.handshake.over refl
         (unmarked s.resends (unique_of c.message)) c.refused (incoming_of s.handshake c.message)
 
     go : (over : Bool) → s.handshake.over ≡ over → IsMoved s (with_message s c) c.message
-    go true is = record { rules = rw is refl; resends = rw is refl; handshake = rw is refl }
+    go true is = record { rules = rw is refl; heard = rw is refl; resends = rw is refl; handshake = rw is refl }
     go false is = record {
       rules = ap (λ over. (if over then s else there).rules) is ∙ on.rules;
+      heard = ap (λ over. (if over then s else there).heard) is ∙ on.heard;
       resends = ap (λ over. (if over then s else there).resends) is ∙ on.resends;
       handshake = ap (λ over. (if over then s else there).handshake) is ∙ on.handshake;
     }
@@ -105,6 +108,11 @@ by_messages s (c ∷ came) = by_messages (with_message s c) came ∙ (by_message
 -- the rules of a session are those that it began with
 pub rules_from : (first : Session) (came : List Came) → (session_from first came).rules ≡ first.rules
 rules_from first came = by_messages first came
+
+-- what a session heard before its lines stays
+pub heard_from : (first : Session) (came : List Came) → (session_from first came).heard ≡ first.heard
+heard_from first [] = refl
+heard_from first (c ∷ came) = heard_from (with_message first c) came ∙ (by_message first c).heard
 
 brought_by : (s : Session) (came : List Came)
     → (fold with_message s came).handshake ≡ fold advanced s.handshake (messages_of came)

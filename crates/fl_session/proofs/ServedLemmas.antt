@@ -11,7 +11,7 @@ use Rattle.fl_desk.specs.Legal.{IsLegal, nothing}
 use Rattle.fl_history.specs.declared.history.Line.{Line}
 use Rattle.fl_session.proofs.RulesLemmas.{as_far, rules_from}
 use Rattle.fl_session.specs.Inside.UnderWay.{HasEnded, Way}
-use Rattle.fl_session.specs.Recorded.{done_of, journal_lines}
+use Rattle.fl_session.specs.Recorded.{done_of}
 use Rattle.fl_session.specs.Served.{AreSent, IsServed, IsServedAhead, IsServedAheadFrom, IsServedFrom}
 use Rattle.fl_session.specs.Session.{Session, messages_of, session_behind, session_from}
 use Rattle.fl_session.specs.declared.done.Done.{Done}
@@ -69,25 +69,25 @@ ends_by fault told over broken messages rest left same (inr ending) kept on =
 
 -- A session that ended, of which nothing waits, is served behind the lines that its desk began with, and what it wrote
 -- stands behind its lines.
-pub served : {K : Type 0} (rules : Rules) (base stored : List Line) (resends : Bool) (first : Session) (way : Way)
-    (server : Server K) (fault : Option Fault) (done : Done) → first ≡ session_behind rules base resends
+pub served : {K : Type 0} (rules : Rules) (heard base stored : List Line) (resends : Bool) (first : Session) (way : Way)
+    (server : Server K) (fault : Option Fault) (done : Done) → first ≡ session_behind rules heard base resends
     → way.out.waiting ≡ [] → HasEnded first way server fault → done.history ≡ server.desk.lines
     → (fault ≡ Some Unstored → done.fault ≡ Some Unstored)
     → ((messages : List (List ℕ)) (rest : List ℕ) (left : Option (List ℕ))
     → IsEnding fault (handshake_of messages).over rest left → EndsBy done.fault way.out.broken messages rest left)
     → done.refused ≡ server.refused → stored ≡ server.desk.stored
-    → IsServedAheadFrom (session_behind rules base resends)
+    → IsServedAheadFrom (session_behind rules heard base resends)
     (record { left = way.left; left_now = way.left_now; held = way.start; held_now = way.out.held })
     way.out.broken done stored
-served rules base stored resends first way server fault done same none began history kept told refused is =
-    let ended = ends_as first (session_behind rules base resends) way server fault same began in
+served rules heard base stored resends first way server fault done same none began history kept told refused is =
+    let ended = ends_as first (session_behind rules heard base resends) way server fault same began in
     let session = ended.under in
     let given = session.given in
     let ahead = session.ahead in
     let Q : List ℕ → Type 0 = λ waiting.
-    AreGiven way.out.broken given.sent waiting (session_from (session_behind rules base resends) session.came).replies in
+    AreGiven way.out.broken given.sent waiting (session_from (session_behind rules heard base resends) session.came).replies in
     let C : List Line → Type 0 = λ l.
-    (ahead.sent ≡ []) ⊎ IsPrefix (session_from (session_behind rules base resends) ahead.front).lines l in
+    (ahead.sent ≡ []) ⊎ IsPrefix (session_from (session_behind rules heard base resends) ahead.front).lines l in
     record {
       served = record {
         came = session.came;
@@ -99,11 +99,11 @@ served rules base stored resends first way server fault done same none began his
         refused = refused ∙ ap (λ s. s.refused) session.stands;
         framed = given.framed;
         written = given.written;
-        are_sent = all_sent way.out.broken given.sent (session_from (session_behind rules base resends) session.came).replies
+        are_sent = all_sent way.out.broken given.sent (session_from (session_behind rules heard base resends) session.came).replies
             (subst Q none given.are_given);
         ending = ends_by fault done.fault server.handshake.over way.out.broken (messages_of session.came) ended.rest
             way.left_now
-            (ap (λ h. h.over) (ap (λ s. s.handshake) session.stands ∙ as_far (session_behind rules base resends) session.came refl))
+            (ap (λ h. h.over) (ap (λ s. s.handshake) session.stands ∙ as_far (session_behind rules heard base resends) session.came refl))
             ended.ending kept (told (messages_of session.came) ended.rest way.left_now);
       };
       ahead = record {
@@ -119,10 +119,10 @@ served rules base stored resends first way server fault done same none began his
     }
 
 -- its desk has these rules
-pub desk_under : {K : Type 0} (rules : Rules) (base : List Line) (resends : Bool) (first : Session) (way : Way) (server : Server K)
-    (fault : Option Fault) → first ≡ session_behind rules base resends → HasEnded first way server fault
+pub desk_under : {K : Type 0} (rules : Rules) (heard base : List Line) (resends : Bool) (first : Session) (way : Way)
+    (server : Server K) (fault : Option Fault) → first ≡ session_behind rules heard base resends → HasEnded first way server fault
     → server.desk.present.rules ≡ rules
-desk_under rules base resends first way server fault same began =
+desk_under rules heard base resends first way server fault same began =
     ap (λ (s : Session). s.rules) began.under.stands ∙ rules_from first began.under.came ∙ ap (λ s. s.rules) same
 
 -- what a session did that had no memory
@@ -150,26 +150,27 @@ there_of IsSo Q None there so on = absurd (cc there)
 there_of IsSo Q (Some k) there so on = on k so
 
 -- a session behind no lines was served
-pub served_alone : {K : Type 0} (rules : Rules) (base : List Line) (streams : Streams) (broken : Bool)
-    (lines stored : K → List Line) (it : Recorded K) → base ≡ [] → IsSome it.journal
+pub served_alone : {K : Type 0} (rules : Rules) (heard base : List Line) (streams : Streams) (broken : Bool)
+    (lines stored : K → List Line) (it : Recorded K) → heard ≡ [] → base ≡ [] → IsSome it.journal
     → IfSome it.journal (λ k.
-    IsServedAheadFrom (session_behind rules base false) streams broken (done_of lines it) (stored k))
+    IsServedAheadFrom (session_behind rules heard base false) streams broken (done_of lines it) (stored k))
     → IsServed rules streams broken (done_of lines it)
-served_alone {K} rules base streams broken lines stored it none there so =
-    let P : List Line → Type 0 = λ base. IsServedFrom (session_behind rules base false) streams broken (done_of lines it) in
-    let IsSo : K → Type 0 = λ k. IsServedAheadFrom (session_behind rules base false) streams broken (done_of lines it) (stored k) in
-    subst P none (there_of IsSo (P base) it.journal there so (λ k so. so.served))
+served_alone {K} rules heard base streams broken lines stored it unheard none there so =
+    let P : List Line → List Line → Type 0 = λ heard base.
+    IsServedFrom (session_behind rules heard base false) streams broken (done_of lines it) in
+    let IsSo : K → Type 0 = λ k. IsServedAheadFrom (session_behind rules heard base false) streams broken (done_of lines it) (stored k) in
+    subst (P []) none (subst (λ h. P h base) unheard (there_of IsSo (P heard base) it.journal there so (λ k so. so.served)))
 
 -- the same, and what it wrote stands behind its lines
-pub ahead_alone : {K : Type 0} (rules : Rules) (base : List Line) (streams : Streams) (broken : Bool)
-    (lines stored : K → List Line) (it : Recorded K) → base ≡ []
+pub ahead_alone : {K : Type 0} (rules : Rules) (heard base : List Line) (streams : Streams) (broken : Bool)
+    (lines stored : K → List Line) (it : Recorded K) → heard ≡ [] → base ≡ []
     → IfSome it.journal (λ k.
-    IsServedAheadFrom (session_behind rules base false) streams broken (done_of lines it) (stored k))
+    IsServedAheadFrom (session_behind rules heard base false) streams broken (done_of lines it) (stored k))
     → IfSome it.journal (λ k. IsServedAhead rules streams broken (done_of lines it) (stored k))
-ahead_alone rules base streams broken lines stored it none so =
-    let P : List Line → Type 0 = λ base. IfSome it.journal (λ k.
-    IsServedAheadFrom (session_behind rules base false) streams broken (done_of lines it) (stored k)) in
-    subst P none so
+ahead_alone rules heard base streams broken lines stored it unheard none so =
+    let P : List Line → List Line → Type 0 = λ heard base. IfSome it.journal (λ k.
+    IsServedAheadFrom (session_behind rules heard base false) streams broken (done_of lines it) (stored k)) in
+    subst (P []) none (subst (λ h. P h base) unheard so)
 
 -- how a session ended says that lines were stored
 pub ending_stored : (fault : Option Fault) (over : Bool) (rest : List ℕ) (left : Option (List ℕ)) → IsEnding fault over rest left

@@ -3,13 +3,12 @@ use Rattle.std.specs.Prelude.{◌≡◌, ℕ, ◌≤◌, ◌^◌, nat_le, Bool, 
 use Rattle.std.specs.Prelude.{if◌then◌else◌, Option, None, Some, Err}
 use Rattle.std.specs.List.{AllByRecursion}
 use Rattle.fl_desk.specs.Replay.{state_after}
-use Rattle.fl_history.specs.Recent.{recalled, recent}
 use Rattle.fl_history.specs.declared.recent.Recalled.{Recalled}
 use Rattle.fl_history.specs.declared.recent.Recalled.TheVariants as recall
 use Rattle.fl_order.specs.declared.refusal.Refusal.TheVariants.{Batch}
 use Rattle.fl_session.specs.Again.{response_under, unmarked}
 use Rattle.fl_session.specs.Once.{AllComeAgain, AreNew, IsUnknown, SaysTheSame, resumed, under_way}
-use Rattle.fl_session.specs.Session.{Came, Session, with_orders}
+use Rattle.fl_session.specs.Session.{Came, Session, recalled_in, with_orders}
 use Rattle.fl_transport.specs.Handshake.{incoming_by}
 use Rattle.fl_transport.specs.Response.{bytes_of}
 use Rattle.fl_transport.specs.declared.handshake.Incoming.{Incoming}
@@ -32,7 +31,7 @@ reply_in (recall.Asked count) = []
 abbrev pub reply_had : Session → ℕ → List (List ℕ)
 reply_had s unique =
     if is_parked unique (state_after s.rules s.lines).view.parked then []
-    else reply_in (recalled unique (recent s.lines))
+    else reply_in (recalled_in s unique)
 
 -- what it sends when a message of this unique comes again: that, or what the session itself answers
 abbrev pub reply_again : Session → ℕ → Incoming → List (List ℕ)

@@ -2,6 +2,7 @@
 use Rattle.std.specs.Prelude.{◌≡◌, ◌≢◌, ℕ, ◌+◌, ◌<◌, ◌≤◌, true, List, [], ◌∷◌, ◌++◌, length, map}
 use Rattle.std.specs.Prelude.{set, slice_index, Some, Ok, Err, ⊤}
 use Rattle.std.specs.List.{AllByRecursion}
+use Rattle.fl_history.specs.Recent.{spoken}
 use Rattle.fl_history.specs.declared.history.Line.{Line}
 use Rattle.fl_history.specs.declared.history.Line.TheVariants as line
 use Rattle.fl_order.specs.declared.order.Order.{Order}
@@ -27,7 +28,7 @@ IsOf unique (line.State _) = ⊥
 abbrev pub HaveNothing : ℕ → List Line → Type 0
 HaveNothing unique lines = AllByRecursion (λ (l : Line). IsOf unique l → ⊥) lines
 
--- Of this unique lines have one order, and no reply. Fewer than 65,536 lines stand behind the order.
+-- Of this unique lines have one order, and no reply. Fewer than 65,536 orders and replies stand behind the order.
 pub record HaveOrder (lines : List Line) (unique : ℕ) : Type 0 where
   pub worker : ℕ
   pub order : Order
@@ -37,10 +38,10 @@ pub record HaveOrder (lines : List Line) (unique : ℕ) : Type 0 where
   pub stand : lines ≡ before ++ line.Asked worker order ∷ after
   pub none_before : HaveNothing unique before
   pub none_after : HaveNothing unique after
-  pub near : length after < 65536
+  pub near : length (spoken after) < 65536
 
--- Of this unique lines have these orders of one batch, side by side, and no reply. With the lines behind them these are
--- at most 65,536.
+-- Of this unique lines have these orders of one batch, side by side, and no reply. With the orders and replies behind
+-- them these are at most 65,536.
 pub record HaveBatch (lines : List Line) (unique : ℕ) (orders : List Order) : Type 0 where
   pub before : List Line
   pub after : List Line
@@ -48,9 +49,10 @@ pub record HaveBatch (lines : List Line) (unique : ℕ) (orders : List Order) : 
   pub stand : lines ≡ before ++ (map (λ order. line.Asked 0 order) orders ++ after)
   pub none_before : HaveNothing unique before
   pub none_after : HaveNothing unique after
-  pub near : length orders + length after ≤ 65536
+  pub near : length orders + length (spoken after) ≤ 65536
 
--- Of its unique, lines have one order, and behind it this reply. Fewer than 65,536 lines stand behind the reply.
+-- Of its unique, lines have one order, and behind it this reply. Fewer than 65,536 orders and replies stand behind the
+-- reply.
 pub record HaveReply (lines : List Line) (told : Told) : Type 0 where
   pub worker : ℕ
   pub order : Order
@@ -62,7 +64,7 @@ pub record HaveReply (lines : List Line) (told : Told) : Type 0 where
   pub none_before : HaveNothing told.unique before
   pub none_between : HaveNothing told.unique between
   pub none_after : HaveNothing told.unique after
-  pub near : length after < 65536
+  pub near : length (spoken after) < 65536
 
 -- Each of these messages has a unique of its own: no line has it, and no other of the messages.
 abbrev pub HaveOwnUniques : List Line → List Came → Type 0

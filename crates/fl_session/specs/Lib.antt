@@ -1,4 +1,5 @@
 pub mod Again
+pub mod Alike
 pub mod AsOne
 pub mod Client
 pub mod CutOff

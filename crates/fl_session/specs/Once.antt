@@ -1,12 +1,11 @@
 -- A session that was cut off and goes on behind its lines, and messages that are sent again to it.
 use Rattle.std.specs.Prelude.{◌≡◌, ℕ, ◌||◌, nat_le, Bool, true, false, List, [], ◌∷◌, length, Some, ⊤}
 use Rattle.fl_desk.specs.Replay.{state_after}
-use Rattle.fl_history.specs.Recent.{recalled, recent}
 use Rattle.fl_history.specs.declared.recent.Recalled.{Recalled}
 use Rattle.fl_history.specs.declared.recent.Recalled.TheVariants as recall
 use Rattle.fl_order.specs.declared.order.Order.{Order}
 use Rattle.fl_session.specs.Again.{incoming_under, unmarked}
-use Rattle.fl_session.specs.Session.{Came, Session, session_behind, with_message}
+use Rattle.fl_session.specs.Session.{Came, Session, recalled_in, session_behind, with_message}
 use Rattle.fl_transport.specs.Handshake.{incoming_by, says_destroy}
 use Rattle.fl_transport.specs.declared.handshake.Handshake.{Handshake}
 use Rattle.fl_transport.specs.declared.handshake.Incoming.{Incoming}
@@ -19,9 +18,9 @@ use Rattle.fl_wire.specs.Says.{said}
 abbrev pub under_way : Handshake
 under_way = record { agreed = true; over = false }
 
--- a session that goes on behind the lines of this one, and is as far
+-- a session that goes on behind the lines of this one, heard the same before them, and is as far
 abbrev pub resumed : Session → Session
-resumed s = record (session_behind s.rules s.lines true) { handshake = s.handshake }
+resumed s = record (session_behind s.rules s.heard s.lines true) { handshake = s.handshake }
 
 -- the orders of a message; none if the session itself answers it
 abbrev pub orders_in : Incoming → List Order
@@ -37,7 +36,7 @@ has_all (recall.Asked asked) count = nat_le count asked
 -- in a session a request of this unique is parked, or the last lines have a reply to it, or so many orders of it
 abbrev pub is_had : Session → ℕ → ℕ → Bool
 is_had s unique count =
-    is_parked unique (state_after s.rules s.lines).view.parked || has_all (recalled unique (recent s.lines)) count
+    is_parked unique (state_after s.rules s.lines).view.parked || has_all (recalled_in s unique) count
 
 -- a message is marked as one that is sent again, is no DESTROY, and the session has its orders
 pub record ComesAgain (s : Session) (message : List ℕ) : Type 0 where
@@ -60,7 +59,7 @@ pub record SaysTheSame (message marked : List ℕ) : Type 0 where
 -- in a session no request of this unique is parked, and the last lines say nothing of it
 pub record IsUnknown (s : Session) (unique : ℕ) : Type 0 where
   pub free : is_parked unique (state_after s.rules s.lines).view.parked ≡ false
-  pub unsaid : recalled unique (recent s.lines) ≡ recall.Asked 0
+  pub unsaid : recalled_in s unique ≡ recall.Asked 0
 
 -- Each of these messages is unknown to a session that goes on by those before it. The others are the same messages with
 -- a mark, and their orders are refused or not as those of these.

@@ -35,9 +35,10 @@ pub record IsServedFrom (first : Session) (streams : Streams) (broken : Bool) (d
   pub are_sent : AreSent broken sent (session_from first came).replies
   pub ending : (done.fault ≡ Some Unstored) ⊎ EndsBy done.fault broken (messages_of came) rest streams.left_now
 
--- the same of a session that goes on behind these lines, and knows messages that are sent again
-abbrev pub IsServedBehind : Rules → List Line → Streams → Bool → Done → Type 0
-IsServedBehind rules base streams broken done = IsServedFrom (session_behind rules base true) streams broken done
+-- the same of a session that heard these lines, goes on behind these others, and knows messages that are sent again
+abbrev pub IsServedBehind : Rules → List Line → List Line → Streams → Bool → Done → Type 0
+IsServedBehind rules heard base streams broken done =
+    IsServedFrom (session_behind rules heard base true) streams broken done
 
 -- the same of a session behind no lines, to which each message is new
 abbrev pub IsServed : Rules → Streams → Bool → Done → Type 0
@@ -63,10 +64,10 @@ pub record IsServedAheadFrom (first : Session) (streams : Streams) (broken : Boo
   pub served : IsServedFrom first streams broken done
   pub ahead : IsAheadFrom first served.came streams stored
 
--- the same of a session that goes on behind these lines, and knows messages that are sent again
-abbrev pub IsServedAheadBehind : Rules → List Line → Streams → Bool → Done → List Line → Type 0
-IsServedAheadBehind rules base streams broken done stored =
-    IsServedAheadFrom (session_behind rules base true) streams broken done stored
+-- the same of a session that heard these lines, goes on behind these others, and knows messages that are sent again
+abbrev pub IsServedAheadBehind : Rules → List Line → List Line → Streams → Bool → Done → List Line → Type 0
+IsServedAheadBehind rules heard base streams broken done stored =
+    IsServedAheadFrom (session_behind rules heard base true) streams broken done stored
 
 -- the same of a session behind no lines, to which each message is new
 abbrev pub IsServedAhead : Rules → Streams → Bool → Done → List Line → Type 0

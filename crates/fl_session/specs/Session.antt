@@ -34,11 +34,12 @@ pub record Came : Type 0 where
 abbrev pub messages_of : List Came → List (List ℕ)
 messages_of came = map (λ c. c.message) came
 
--- A session so far: the rules by which requests wait, whether it knows messages that are sent again, how far its
--- messages brought it, the bytes of each reply, the lines of its orders, and whether some order was refused because
--- memory ran out.
+-- A session so far: the rules by which requests wait, the lines before its own that messages sent again may tell of,
+-- whether it knows such messages, how far its messages brought it, the bytes of each reply, its lines, and whether some
+-- order was refused because memory ran out. If its lines begin with a head, those before them stand in other pieces.
 pub record Session : Type 0 where
   pub rules : Rules
+  pub heard : List Line
   pub resends : Bool
   pub handshake : Handshake
   pub replies : List (List ℕ)
@@ -48,11 +49,17 @@ pub record Session : Type 0 where
 -- No message came yet, requests will wait by these rules, and messages that are sent again aren't known.
 abbrev pub opening_session : Rules → Session
 opening_session rules =
-    record { rules = rules; resends = false; handshake = opening; replies = []; lines = []; refused = false }
+    record { rules = rules; heard = []; resends = false; handshake = opening; replies = []; lines = []; refused = false }
 
--- No message came yet. The session goes on behind these lines, and knows messages that are sent again or doesn't.
-abbrev pub session_behind : Rules → List Line → Bool → Session
-session_behind rules base resends = record (opening_session rules) { lines = base; resends = resends }
+-- No message came yet. The session heard these lines, goes on behind these others, and knows messages that are sent
+-- again or doesn't.
+abbrev pub session_behind : Rules → List Line → List Line → Bool → Session
+session_behind rules heard base resends =
+    record (opening_session rules) { heard = heard; lines = base; resends = resends }
+
+-- what the last lines of a session, with those that were heard before them, say of the order of this unique
+abbrev pub recalled_in : Session → ℕ → Recalled
+recalled_in s unique = recalled unique (recent (s.heard ++ s.lines))
 
 -- this is answered
 abbrev pub with_response : Session → Response → Session
@@ -93,7 +100,7 @@ with_recalled s (recall.Asked count) orders refused = with_orders s (drop count 
 abbrev pub with_orders_again : Session → ℕ → List Order → List Bool → Session
 with_orders_again s unique orders refused =
     if is_parked unique (state_after s.rules s.lines).view.parked then s
-    else with_recalled s (recalled unique (recent s.lines)) orders refused
+    else with_recalled s (recalled_in s unique) orders refused
 
 -- a message of this unique is sent again; the session itself answers as it did
 abbrev pub with_again : Session → ℕ → List Bool → Incoming → Session

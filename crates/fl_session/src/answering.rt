@@ -91,6 +91,7 @@ fn answer_all<R: Read, W: Write, J: Journal>(
 }
 
 // No whole message is at hand, and the next read may wait for one: lines are stored, and what is collected goes out.
+// Then a new piece may begin, unless lines couldn't be stored.
 fn rest<W: Write, J: Journal>(server: &mut Server<J>, replying: &mut Replying<'_, W, J>)
     ensures same { (writer_of replying.new.batch.out).ghost_name ≡ (writer_of replying.old.batch.out).ghost_name }
     ensures over { server.new.handshake.over ≡ server.old.handshake.over }
@@ -99,4 +100,7 @@ fn rest<W: Write, J: Journal>(server: &mut Server<J>, replying: &mut Replying<'_
         (outgoing W.contents replying.new.batch) }
 {
     replying.send(&mut server.desk);
+    if !replying.lost {
+        server.desk.turn();
+    }
 }

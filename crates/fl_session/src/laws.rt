@@ -3,19 +3,26 @@
 //! The first three say what a server that was killed leaves, and from what the next one goes on. The fourth says what
 //! becomes of orders, in a client's words: it uses each unique for one message, and sends again, with a mark, some of
 //! those that the first session took, and then all others. Five say the same in the words of sessions, and more of a
-//! cut inside a batch. The others say which replies come again, and how single messages meet the conditions.
+//! cut inside a batch. Others say which replies come again, and how single messages meet the conditions. The last two
+//! say that a session behind a head, if it heard the last lines before that, goes on as one behind all lines.
 
 ghost use Rattle.std.specs.Prelude.{◌≡◌, ◌≤◌, ℕ, ◌+◌, true, false, All, Contains, List, [], ◌∷◌, ◌++◌, length, take};
-ghost use Rattle.std.specs.Prelude.{drop, Some, Ok};
+ghost use Rattle.std.specs.Prelude.{drop, ◌⊎◌, Some, Ok};
 ghost use mathlib.Core.List.{IsPrefix};
+ghost use Rattle.fl_core.specs.State.{snapshot_of};
+ghost use Rattle.fl_desk.specs.Heads.{IsHead, head_lines};
 ghost use Rattle.fl_desk.specs.Legal.{IsLegal};
 ghost use Rattle.fl_desk.specs.Replay.{state_after};
+ghost use Rattle.fl_history.specs.Recent.{recalled, recent, spoken};
 ghost use Rattle.fl_history.specs.declared.history.Line.{Line};
 ghost use Rattle.fl_history.specs.declared.history.Line.TheVariants as line;
 ghost use Rattle.fl_order.specs.OpKind.{kind_of_opcode};
 ghost use Rattle.fl_order.specs.declared.kind.OpKind.TheVariants as kinds;
 ghost use Rattle.fl_order.specs.declared.order.Order.{Order};
+ghost use Rattle.fl_order.specs.declared.state_part.Head.{Head};
+ghost use Rattle.fl_order.specs.declared.state_part.StatePart.{StatePart};
 ghost use Rattle.fl_order.specs.declared.told.Told.{Told};
+ghost use Rattle.fl_session.specs.Alike.{AreAlike, DoTheSame, IsHeardEnough};
 ghost use Rattle.fl_session.specs.AsOne.{AllPlain, AreAsOne, IsCutInside, IsSentAgain, NoneRefused, part_of};
 ghost use Rattle.fl_session.specs.AsOne.{replies_again};
 ghost use Rattle.fl_session.specs.Client.{AreOnesAgain, HasTaken, IsNear};
@@ -38,7 +45,10 @@ ghost use Rattle.fl_wire.specs.Says.{said};
 ghost use Rattle.fl_wire.specs.Spell.{spelling_of};
 
 use fl_core::laws::settling_answers_the_oldest_first;
-use fl_desk::laws::{a_legal_history_goes_on_by_orders, own_reply_comes_first};
+use fl_desk::laws::{
+    a_history_can_be_cut, a_legal_history_goes_on_by_orders, an_order_leads_on,
+    own_reply_comes_first,
+};
 
 /// A server was killed. Suppose that the lines that it stored begin its history, and that they have all lines of its
 /// first messages. `IsAheadFrom` says the second, of the messages whose replies its client got; it doesn't say the
@@ -60,7 +70,7 @@ pub fn what_a_cut_session_leaves_is_a_session()
 /// that of a server that does not know them: each reply, that to an INIT too, each line, and how far it is.
 pub fn to_know_marks_changes_nothing_without_one()
     ensures { (rules : Rules) (came : List Came) → AllPlain came
-        → session_from (session_behind rules [] true) came ≡ record (session_of rules came) { resends = true } }
+        → session_from (session_behind rules [] [] true) came ≡ record (session_of rules came) { resends = true } }
 {}
 
 /// A server goes on behind the lines of a session that was cut off. Until an INIT is agreed, it answers each message
@@ -71,7 +81,7 @@ pub fn a_server_that_goes_on_answers_its_init_first()
         → (session_of first.rules early).handshake ≡ opening
         → kind_of_opcode (opcode_of init.message) ≡ Some kinds.Init → is_agreed (init_step init.message) ≡ true
         → AllPlain early → AllPlain (init ∷ [])
-        → session_from (session_behind first.rules first.lines true) (early ++ init ∷ came)
+        → session_from (session_behind first.rules first.heard first.lines true) (early ++ init ∷ came)
         ≡ record (session_from (resumed first) came) {
           replies = (session_of first.rules early).replies
               ++ init_spelling (unique_of init.message) (init_step init.message)
@@ -82,10 +92,10 @@ pub fn a_server_that_goes_on_answers_its_init_first()
 /// A client uses each unique for one message. A session that was under way took those of `taken`, refused none for
 /// memory, and was cut off before those of `unread`. The client sends some of `taken` again, each with a mark, and then
 /// those of `unread`, marked. What the session has of each that comes again is near: its request is parked, or the last
-/// lines say of it what all lines say, as they do of everything if there are at most 65,536. Then the lines of the
-/// session that goes on are those of one session of `early`, `taken` and `unread`: no order is taken twice, and none is
-/// left out. The same is so of a cut inside a batch, which comes again between the two. If it wasn't cut inside one, a
-/// reply that the first session gave to an order of `taken` is sent again if its message is.
+/// lines say of it what all lines say, as they do of everything if there are at most 65,536 orders and replies. Then the
+/// lines of the session that goes on are those of one session of `early`, `taken` and `unread`: no order is taken twice,
+/// and none is left out. The same is so of a cut inside a batch, which comes again between the two. If it wasn't cut
+/// inside one, a reply that the first session gave to an order of `taken` is sent again if its message is.
 pub fn a_client_that_sends_again_has_one_session()
     ensures one { (rules : Rules) (early taken again unread marked : List Came)
         → HasTaken (session_of rules early) taken unread
@@ -109,7 +119,7 @@ pub fn a_client_that_sends_again_has_one_session()
         → Contains (session_of rules (early ++ taken)).lines (line.Told told)
         → Contains again same → SaysTheSame c.message same.message
         → Contains (replies_again (session_of rules (early ++ taken)) again) (spelling_of told) }
-    ensures short { (s : Session) (unique : ℕ) → length s.lines ≤ 65536 → IsNear s unique }
+    ensures short { (s : Session) (unique : ℕ) → length (spoken (s.heard ++ s.lines)) ≤ 65536 → IsNear s unique }
 {
     settling_answers_the_oldest_first();
     own_reply_comes_first();
@@ -171,10 +181,11 @@ pub fn later_messages_are_as_in_one_session()
         → AreAsOne first (session_from other later) (session_from one later) again }
 {}
 
-/// The reply to an order whose unique no other line has, if it is among the last 65,536 lines, is sent again to its
-/// message. So is what the session itself answered to a message.
+/// The reply to an order whose unique no other line has, if it is among the last 65,536 orders and replies of the lines
+/// of a session and those that it heard before, is sent again to its message. So is what the session itself answered to
+/// a message.
 pub fn a_reply_is_sent_again()
-    ensures stored { (s : Session) (again : List Came) (c : Came) (told : Told) → HaveReply s.lines told
+    ensures stored { (s : Session) (again : List Came) (c : Came) (told : Told) → HaveReply (s.heard ++ s.lines) told
         → Contains again c → IsOrderAgain told.unique c.message
         → Contains (replies_again s again) (spelling_of told) }
     ensures own { (s : Session) (again : List Came) (c same : Came) (response : Response) (reply : List ℕ)
@@ -182,16 +193,17 @@ pub fn a_reply_is_sent_again()
         → Contains (bytes_of response) reply → Contains again same → Contains (replies_again s again) reply }
 {}
 
-/// A session has the order of a message if its reply is among the last 65,536 lines, or the order itself without a
-/// reply, or if its request is parked. It has those of a batch if they all are among these lines. A message that is no
-/// order, since the session itself answers it, comes again to each session, but a DESTROY.
+/// A session has the order of a message if its reply is among the last 65,536 orders and replies of its lines and those
+/// that it heard before, or the order itself without a reply, or if its request is parked. It has those of a batch if
+/// they all are among these lines. A message that is no order, since the session itself answers it, comes again to each
+/// session, but a DESTROY.
 pub fn a_message_comes_again_whose_order_is_there()
-    ensures replied { (s : Session) (told : Told) (message : List ℕ) → HaveReply s.lines told
+    ensures replied { (s : Session) (told : Told) (message : List ℕ) → HaveReply (s.heard ++ s.lines) told
         → IsOrderAgain told.unique message → ComesAgain s message }
-    ensures asked { (s : Session) (unique : ℕ) (message : List ℕ) → HaveOrder s.lines unique
+    ensures asked { (s : Session) (unique : ℕ) (message : List ℕ) → HaveOrder (s.heard ++ s.lines) unique
         → IsOrderAgain unique message → ComesAgain s message }
     ensures batch { (s : Session) (unique : ℕ) (orders : List Order) (message : List ℕ)
-        → HaveBatch s.lines unique orders → IsBatchAgain unique (length orders) message → ComesAgain s message }
+        → HaveBatch (s.heard ++ s.lines) unique orders → IsBatchAgain unique (length orders) message → ComesAgain s message }
     ensures parked { (s : Session) (unique : ℕ) (message : List ℕ)
         → is_parked unique (state_after s.rules s.lines).view.parked ≡ true → IsOrderAgain unique message
         → ComesAgain s message }
@@ -200,14 +212,14 @@ pub fn a_message_comes_again_whose_order_is_there()
         → says_destroy (said message) ≡ false → ComesAgain s marked }
 {}
 
-/// A unique that no line has is new to a session with these lines.
+/// A unique that no line has is new to a session with these lines and those that it heard before.
 pub fn a_unique_that_no_line_has_is_unknown()
-    ensures { (s : Session) (unique : ℕ) → HaveNothing unique s.lines → IsUnknown s unique }
+    ensures { (s : Session) (unique : ℕ) → HaveNothing unique (s.heard ++ s.lines) → IsUnknown s unique }
 {}
 
 /// Messages that a session lacks are new to it, one after another, if each has a unique of its own that no line has.
 pub fn messages_with_uniques_of_their_own_are_new()
-    ensures { (s : Session) (unread marked : List Came) → s.resends ≡ false → HaveOwnUniques s.lines unread
+    ensures { (s : Session) (unread marked : List Came) → s.resends ≡ false → HaveOwnUniques (s.heard ++ s.lines) unread
         → AreMarked unread marked → AreNew s unread marked }
 {
     settling_answers_the_oldest_first();
@@ -217,3 +229,37 @@ pub fn messages_with_uniques_of_their_own_are_new()
 pub fn a_mark_says_nothing_else()
     ensures { (message : List ℕ) → 16 ≤ length message → SaysTheSame message (with_mark message) }
 {}
+
+/// Two sessions under the same rules are as far, their lines lead to the same, and with those that each heard before
+/// say the same of each unique. Then they go on alike for ever: to the same messages they send the same replies, and add
+/// the same lines. So all that is proved of a session behind all lines is so of one behind a head that tells what is
+/// there after them.
+pub fn sessions_with_one_state_go_on_alike()
+    ensures { (s t : Session) (came : List Came) → AreAlike s t → AreAlike (session_from s came) (session_from t came)
+        × DoTheSame s t (session_from s came) (session_from t came) }
+{
+    an_order_leads_on();
+}
+
+/// A history stands in pieces, and the last begins with a head that tells what is there after the lines before it. A
+/// session goes on behind that piece, and heard the last lines of the pieces before: their orders and replies are all
+/// that there are, or with those of the piece at least 65,536. Then it is alike to a session behind all lines, as the
+/// law before this one wants, which itself may have heard `earlier` lines. Lines of heads count for nothing: neither the
+/// piece's own, nor those that it heard, if the piece before begins with some.
+pub fn the_last_lines_of_the_piece_before_are_enough()
+    ensures head { (head : Head) (parts : List StatePart) → spoken (head_lines head parts) ≡ [] }
+    ensures enough { (front heard rest : List Line)
+        → (spoken front ≡ []) ⊎ (65536 ≤ length (spoken (heard ++ rest))) → IsHeardEnough (front ++ heard) heard rest }
+    ensures recalled { (earlier before heard head rest : List Line) → spoken head ≡ []
+        → IsHeardEnough (earlier ++ before) heard rest → (unique : ℕ) (more : List Line)
+        → recalled unique (recent (heard ++ ((head ++ rest) ++ more)))
+        ≡ recalled unique (recent (earlier ++ ((before ++ rest) ++ more))) }
+    ensures alike { (rules : Rules) (earlier before heard head rest : List Line) → IsLegal rules before
+        → IsHead rules head → snapshot_of (state_after rules head) ≡ snapshot_of (state_after rules before)
+        → IsLegal rules (head ++ rest) → IsHeardEnough (earlier ++ before) heard rest
+        → AreAlike (session_behind rules earlier (before ++ rest) true)
+        (session_behind rules heard (head ++ rest) true) }
+{
+    a_legal_history_goes_on_by_orders();
+    a_history_can_be_cut();
+}

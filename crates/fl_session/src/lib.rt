@@ -6,8 +6,8 @@
 //! the lines of all orders (`IsServedAhead`): whatever the client's writer holds, at whichever write either writer
 //! failed, are replies to the first of the very messages that gave the history, and their lines are stored. A resumed
 //! session knows messages that are sent again, by bit 63 of their unique: the last lines say whether their orders came,
-//! and are answered. `laws` says what a killed server leaves, and what this means for its client. Contracts let through
-//! a session that
+//! and are answered. If its lines begin with a head, those that it heard before say so, too. `laws` says what a killed
+//! server leaves, and what this means for its client. Contracts let through a session that
 //! - says `NoMemory` having read nothing, refuses every order for memory, or loses all of a batch after one that is
 //!   refused;
 //! - tells `Read` or `Write` early, or `Unstored` unless lines stay in memory or nowhere, since contracts see no

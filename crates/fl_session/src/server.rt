@@ -14,7 +14,7 @@ use crate::again::{order_under, response_under, unmarked};
 use crate::replying::Replying;
 use fl_core::Tolds;
 use fl_desk::Desk;
-use fl_history::{Journal, Recalled, Recent};
+use fl_history::{Journal, Line, Past, Recalled, Recent};
 use fl_order::{NoMemory, Order, Told};
 use fl_transport::{Handshake, Incoming, Response};
 use fl_wire::{BLANK, Batch, Frame};
@@ -26,6 +26,8 @@ pub(crate) struct Server<J: Journal> {
     pub desk: Desk<J>,
     /// The last lines, if messages that are sent again are known.
     pub recent: Option<Recent>,
+    /// The lines that were heard before those of the desk, for proofs alone.
+    pub heard: Past<Line>,
     pub tolds: Tolds,
     pub handshake: Handshake,
     /// Some order was refused because memory ran out.
@@ -33,17 +35,25 @@ pub(crate) struct Server<J: Journal> {
 }
 
 impl<J: Journal> Server<J> {
-    /// No message came yet. There is room for the replies of an order, and the last lines are the desk's own.
-    pub(crate) fn new(desk: Desk<J>, recent: Option<Recent>, tolds: Tolds) -> Server<J>
-        requires recent { IfSome recent (λ lines. lines ≡ desk.lines) }
+    /// No message came yet. There is room for the replies of an order, and the last lines are those that were heard
+    /// and then the desk's own.
+    pub(crate) fn new(
+        desk: Desk<J>,
+        heard: Past<Line>,
+        recent: Option<Recent>,
+        tolds: Tolds,
+    ) -> Server<J>
+        requires recent { IfSome recent (λ lines. lines ≡ heard.items ++ desk.lines) }
         requires room { HasRoom desk.present.rules tolds }
         ensures fresh { IsFresh result }
         ensures desk { result.desk ≡ desk }
+        ensures heard { result.heard.items ≡ heard.items }
         ensures recent { result.recent ≡ recent }
     {
         Server {
             desk,
             recent,
+            heard,
             tolds,
             handshake: Handshake::new(),
             refused: false,
@@ -118,7 +128,7 @@ impl<J: Journal> Server<J> {
     fn recalled(&self, unique: u64) -> Option<Recalled>
         requires ready { IsReady self.now }
         requires known { IsSome self.now.recent }
-        ensures { result ≡ recalled_at self.now.desk.present.rules self.now.desk.lines unique }
+        ensures { result ≡ recalled_at self.now.desk.present.rules self.now.heard.items self.now.desk.lines unique }
     {
         if self.desk.has_parked(unique) {
             return None;

@@ -1,9 +1,10 @@
 //! A whole session of the FUSE protocol with one worker, over any reader and any writer.
 
-ghost use Rattle.std.specs.Prelude.{◌≡◌, ◌≢◌, ◌⊎◌, Bool, true, false, [], Option, None, Some, IfSome, IsSome, IsTrue};
+ghost use Rattle.std.specs.Prelude.{◌≡◌, ◌≢◌, ◌⊎◌, ◌++◌, Bool, true, false, [], Option, None, Some, IfSome, IsSome, IsTrue};
 ghost use Rattle.std.specs.Prelude.{is_some};
 ghost use Rattle.std.specs.Io.KnownBytes.{Keeps};
 ghost use Rattle.fl_desk.specs.Legal.{IsLegal};
+ghost use Rattle.fl_desk.specs.Pieces.{IsPiece};
 ghost use Rattle.fl_session.specs.Recorded.{done_of};
 ghost use Rattle.fl_session.specs.Served.{IsServed, IsServedAhead, IsServedAheadBehind, IsServedAheadFrom};
 ghost use Rattle.fl_session.specs.Session.{session_behind};
@@ -16,7 +17,7 @@ use crate::room::SessionRoom;
 use crate::server::Server;
 use fl_core::Rules;
 use fl_desk::Desk;
-use fl_history::{Journal, Lines, Recent};
+use fl_history::{Journal, Line, Lines, Past, Recent};
 use fl_transport::{Fault, Outbox, ReplyBatch};
 use std::alloc::Global;
 use std::io::{Read, Write};
@@ -66,7 +67,8 @@ pub fn run_session<R: Read, W: Write>(alloc: Global, r: &mut R, w: &mut W, rules
 
 /// The same, but its lines go to this journal, which has none so far. The journal comes back with them, except at
 /// `NoMemory`: then it is dropped, and nothing was read or written. It is flushed before each read, and before replies
-/// go out: if it can't store its lines then, no reply that waits goes out, and the session ends.
+/// go out: if it can't store its lines then, no reply that waits goes out, and the session ends. Before a read it may
+/// begin a new piece.
 pub fn record_session<R: Read, W: Write, J: Journal + Drop>(
     alloc: Global,
     r: &mut R,
@@ -75,6 +77,7 @@ pub fn record_session<R: Read, W: Write, J: Journal + Drop>(
     rules: Rules,
 ) -> (Recorded<J>, bool)
     requires none { J.lines journal ≡ [] }
+    requires piece { J.piece journal ≡ [] }
     ensures served { IsServed rules (record {
       left = R.remaining r.old;
       left_now = R.remaining r.new;
@@ -88,6 +91,7 @@ pub fn record_session<R: Read, W: Write, J: Journal + Drop>(
       held_now = W.contents w.new;
     }) result.1 (done_of J.lines result.0) (J.stored journal)) }
     ensures legal { IfSome result.0.journal (λ journal. IsLegal rules (J.lines journal)) }
+    ensures piece { IfSome result.0.journal (λ journal. IsPiece rules (J.lines journal) (J.piece journal)) }
     ensures back { IsSome result.0.journal ⊎ (result.0.fault ≡ Some Fault.NoMemory) }
     ensures nothing { result.0.fault ≡ Some Fault.NoMemory
         → (result.0.journal ≡ None) × Keeps (R.remaining r.old) (R.remaining r.new) }
@@ -100,53 +104,60 @@ pub fn record_session<R: Read, W: Write, J: Journal + Drop>(
     let Ok(desk) = Desk::over(alloc, journal, rules) else {
         return (Recorded::nothing(alloc, Fault::NoMemory), false);
     };
-    serve_session(room, r, w, desk, None)
+    let heard = Past::new();
+    serve_session(room, r, w, desk, heard, None)
 }
 
 /// The same, but the session goes on behind the lines of a desk, and knows messages that are sent again
-/// (`FUSE_UNIQUE_RESEND`). `recent` has the same lines. All memory but that of the history is there before, so the
+/// (`FUSE_UNIQUE_RESEND`). `recent` has the same lines, behind those that were heard before: if the desk's lines begin
+/// with a head, these are the last of the piece before. All memory but that of the history is there before, so the
 /// journal comes back, and the history is all its lines.
 pub fn resume_session<R: Read, W: Write, J: Journal + Drop>(
     room: SessionRoom,
     r: &mut R,
     w: &mut W,
     desk: Desk<J>,
+    heard: Past<Line>,
     recent: Recent,
 ) -> (Recorded<J>, bool)
     requires rules { desk.present.rules ≡ room.rules }
-    requires recent { recent ≡ desk.lines }
-    ensures served { IfSome result.0.journal (λ journal. IsServedAheadBehind room.rules desk.lines (record {
+    requires recent { recent ≡ heard.items ++ desk.lines }
+    ensures served { IfSome result.0.journal (λ journal. IsServedAheadBehind room.rules heard.items desk.lines (record {
       left = R.remaining r.old;
       left_now = R.remaining r.new;
       held = W.contents w.old;
       held_now = W.contents w.new;
     }) result.1 (done_of J.lines result.0) (J.stored journal)) }
     ensures legal { IfSome result.0.journal (λ journal. IsLegal room.rules (J.lines journal)) }
+    ensures piece { IfSome result.0.journal (λ journal. IsPiece room.rules (J.lines journal) (J.piece journal)) }
     ensures back { IsSome result.0.journal }
     ensures fault { result.0.fault ≢ Some Fault.NoMemory }
     ensures stored { IsTrue J.infallible → result.0.fault ≢ Some Fault.Unstored }
 {
-    serve_session(room, r, w, desk, Some(recent))
+    serve_session(room, r, w, desk, heard, Some(recent))
 }
 
-// Serves a session behind the lines of a desk. It knows messages that are sent again if the last lines are kept.
+// Serves a session behind the lines of a desk, and others that were heard before. It knows messages that are sent again
+// if the last lines are kept.
 fn serve_session<R: Read, W: Write, J: Journal + Drop>(
     room: SessionRoom,
     r: &mut R,
     w: &mut W,
     desk: Desk<J>,
+    heard: Past<Line>,
     recent: Option<Recent>,
 ) -> (Recorded<J>, bool)
     requires rules { desk.present.rules ≡ room.rules }
-    requires recent { IfSome recent (λ lines. lines ≡ desk.lines) }
+    requires recent { IfSome recent (λ lines. lines ≡ heard.items ++ desk.lines) }
     ensures served { IfSome result.0.journal (λ journal.
-        IsServedAheadFrom (session_behind room.rules desk.lines (is_some recent)) (record {
+        IsServedAheadFrom (session_behind room.rules heard.items desk.lines (is_some recent)) (record {
           left = R.remaining r.old;
           left_now = R.remaining r.new;
           held = W.contents w.old;
           held_now = W.contents w.new;
         }) result.1 (done_of J.lines result.0) (J.stored journal)) }
     ensures legal { IfSome result.0.journal (λ journal. IsLegal room.rules (J.lines journal)) }
+    ensures piece { IfSome result.0.journal (λ journal. IsPiece room.rules (J.lines journal) (J.piece journal)) }
     ensures back { IsSome result.0.journal }
     ensures fault { result.0.fault ≢ Some Fault.NoMemory }
     ensures stored { IsTrue J.infallible → result.0.fault ≢ Some Fault.Unstored }
@@ -158,7 +169,7 @@ fn serve_session<R: Read, W: Write, J: Journal + Drop>(
         ..
     } = room;
     let mut inbox = inbox;
-    let mut server = Server::new(desk, recent, tolds);
+    let mut server = Server::new(desk, heard, recent, tolds);
     let mut replying = Replying {
         batch: ReplyBatch {
             replies,

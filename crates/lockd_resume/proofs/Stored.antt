@@ -31,18 +31,20 @@ fewer_there contents held fewer lines front has = record {
 }
 
 -- what is said of a session whose journal came back, with its lines
-pub served_as : {K : Type 0} (lines stored : K → List Line) (rules : Rules) (now base : List Line) (streams : Streams)
-    (broken : Bool) (it : Recorded K) (journal : K) (all : List Line) → it.journal ≡ Some journal → now ≡ base
-    → all ≡ lines journal
-    → IfSome it.journal (λ j. IsServedAheadBehind rules now streams broken (done_of lines it) (stored j))
-    → IsServedAheadBehind rules base streams broken (record { history = all; fault = it.fault; refused = it.refused })
+pub served_as : {K : Type 0} (lines stored : K → List Line) (rules : Rules) (before heard now base : List Line) (streams : Streams)
+    (broken : Bool) (it : Recorded K) (journal : K) (all : List Line) → it.journal ≡ Some journal → before ≡ heard
+    → now ≡ base → all ≡ lines journal
+    → IfSome it.journal (λ j. IsServedAheadBehind rules before now streams broken (done_of lines it) (stored j))
+    → IsServedAheadBehind rules heard base streams broken (record { history = all; fault = it.fault; refused = it.refused })
     (stored journal)
-served_as {K} lines stored rules now base streams broken it journal all is same whole so =
+served_as {K} lines stored rules before heard now base streams broken it journal all is heard_same same whole so =
     let as_done : Option K → Done =
     λ j. record { history = journal_lines lines j; fault = it.fault; refused = it.refused } in
-    let IsSo : K → Type 0 = λ j. IsServedAheadBehind rules now streams broken (done_of lines it) (stored j) in
+    let IsSo : K → Type 0 = λ j. IsServedAheadBehind rules before now streams broken (done_of lines it) (stored j) in
     let first = so_of IsSo it.journal journal is so in
-    let there = subst (λ j. IsServedAheadBehind rules now streams broken (as_done j) (stored journal)) is first in
-    let behind = subst (λ b. IsServedAheadBehind rules b streams broken (as_done (Some journal)) (stored journal)) same there in
-    subst (λ h. IsServedAheadBehind rules base streams broken
+    let there = subst (λ j. IsServedAheadBehind rules before now streams broken (as_done j) (stored journal)) is first in
+    let P : List Line → List Line → Type 0 =
+    λ h b. IsServedAheadBehind rules h b streams broken (as_done (Some journal)) (stored journal) in
+    let behind = subst (P heard) same (subst (λ h. P h now) heard_same there) in
+    subst (λ h. IsServedAheadBehind rules heard base streams broken
     (record { history = h; fault = it.fault; refused = it.refused }) (stored journal)) (sym whole) behind

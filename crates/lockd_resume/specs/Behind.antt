@@ -1,5 +1,5 @@
 -- A server that goes on behind the lines of a trace's file.
-use Rattle.std.specs.Prelude.{◌≡◌, ℕ, Bool, true, false, List, Option, Some, ⊤}
+use Rattle.std.specs.Prelude.{◌≡◌, ℕ, Bool, true, false, List, [], Option, Some, ⊤}
 use Rattle.fl_desk.specs.Legal.{IsLegal}
 use Rattle.fl_history.specs.Place.{place_of}
 use Rattle.fl_judge.specs.Present.{HasPresent}
@@ -70,6 +70,6 @@ pub record ServesBehind (rules : Rules) (it : Ending) : Type 0 where
   pub broken : Bool
   pub whole : Bool
   pub done : Done
-  pub served : IsServedBehind rules base streams broken done
+  pub served : IsServedBehind rules [] base streams broken done
   pub legal : IsLegal rules done.history
   pub ends : EndsBehind done.fault whole it

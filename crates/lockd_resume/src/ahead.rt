@@ -1,13 +1,14 @@
 //! Lines that a writer has before replies leave.
 
-ghost use Rattle.std.specs.Prelude.{◌≡◌, ◌≢◌, [], IfOk};
+ghost use Rattle.std.specs.Prelude.{◌≡◌, ◌≢◌, ◌≤◌, ◌<◌, ◌+◌, ◌++◌, ◌∷◌, [], IfOk, IsTrue, false, true};
 ghost use mathlib.Core.List.{IsPrefix};
-ghost use Rattle.fl_stream.specs.Streams.{IsAs, IsBlank};
+ghost use Rattle.fl_history.specs.declared.history.Line.TheVariants as line;
+ghost use Rattle.fl_stream.specs.Streams.{IsAs, IsBlank, Wrote};
 ghost use Rattle.fl_stream.specs.declared.manner.WhenWriterFails.TheVariants as manner;
 ghost use Rattle.fl_trace.specs.Text.{text_of};
 
 use fl_history::{Journal, Line, Past};
-use fl_order::{NoMemory, Order, Told};
+use fl_order::{NoMemory, Order, StateLine, Told};
 use fl_session::Recorded;
 use fl_stream::{StreamRoom, Streamed, WhenWriterFails};
 use std::alloc::Global;
@@ -62,6 +63,70 @@ impl<T: Write> AheadLines<T> {
         }
     }
 
+    /// These lines, before a writer to which their text was written and nothing more.
+    pub(crate) fn with_text(room: StreamRoom, writer: T, base: &Past<Line>) -> AheadLines<T>
+        requires there { Wrote T.contents (T.contents writer) (text_of base.now.items) }
+        ensures lines { result.lines ≡ base.now.items }
+        ensures noted { result.noted ≡ base.now.items }
+        ensures room { result.room ≡ 2048 }
+    {
+        AheadLines {
+            stream: Streamed::with_text(room, writer, base, WhenWriterFails::End),
+        }
+    }
+
+    /// All lines.
+    pub(crate) fn lines(&self) -> Past<Line>
+        ensures { result.items ≡ self.now.lines }
+    {
+        self.stream.lines()
+    }
+
+    /// Whether the writer has the text of all lines.
+    pub(crate) fn is_whole(&self) -> bool
+        ensures front { IsPrefix self.now.noted self.now.lines }
+    {
+        self.stream.is_whole()
+    }
+
+    /// A line more.
+    pub(crate) fn push(&mut self, line: &Line)
+        requires room { 0 < self.old.room }
+        ensures lines { self.new.lines ≡ self.old.lines ++ line.now ∷ [] }
+        ensures noted { self.new.noted ≡ self.old.noted }
+        ensures room { self.old.room ≤ self.new.room + 1 }
+    {
+        self.stream.push(line);
+    }
+
+    /// A line of a head more, if there is room for it. Says whether there was.
+    pub(crate) fn add_state(&mut self, state: &StateLine) -> bool
+        ensures lines { result ≡ true → self.new.lines ≡ self.old.lines ++ line.State state.now ∷ [] }
+        ensures refused { result ≡ false → self.new.lines ≡ self.old.lines }
+    {
+        if self.stream.reserve(1).is_err() {
+            return false;
+        }
+        self.stream.push(&Line::State(*state));
+        true
+    }
+
+    /// Writes what waits, and says whether the writer has the text of all lines then.
+    pub(crate) fn finish(&mut self) -> bool
+        ensures lines { self.new.lines ≡ self.old.lines }
+        ensures all { IsTrue result → Wrote T.contents self.new.held (text_of self.new.lines) }
+    {
+        self.stream.finish()
+    }
+
+    /// The writer and the room, with nothing in it.
+    pub(crate) fn into_parts(self) -> (T, StreamRoom)
+        ensures { T.contents result.0 ≡ self.held }
+    {
+        let AheadLines { stream } = self;
+        stream.into_parts()
+    }
+
     /// The stream, which never goes on without its writer.
     pub(crate) fn into_stream(self) -> Streamed<T>
         ensures value { result ≡ self }
@@ -80,6 +145,10 @@ impl<T: Write> Journal for AheadLines<T> {
     ghost stored = { λ a. a.noted };
 
     ghost room = { λ a. a.room };
+
+    ghost piece = { λ a. a.lines };
+
+    ghost draft = { λ _. [] };
 
     #[tactic(auto, using(crate::proofs::Prefixes::of_itself))]
     fn reserve(&mut self, count: usize) -> Result<(), NoMemory> {

@@ -1,17 +1,19 @@
 //! A session behind the lines of a trace.
 
-ghost use Rattle.std.specs.Prelude.{◌≡◌, ◌≢◌, ◌≤◌, ◌++◌, Some, IsTrue, length};
+ghost use Rattle.std.specs.Prelude.{◌≡◌, ◌≢◌, ◌≤◌, ◌++◌, Some, IsTrue, length, min};
 ghost use Rattle.fl_desk.specs.Kept.{IsKept};
+ghost use Rattle.fl_history.specs.Place.{place_of};
 ghost use Rattle.fl_judge.specs.Present.{told_lines};
 ghost use Rattle.fl_transport.specs.declared.fault.Fault.{Fault as SessionFault};
 ghost use Rattle.lockd_resume.specs.Resumed.{IsResumed, lines_at};
 ghost use Rattle.fl_stream.specs.Streams.{HoldsText, IsAs, IsBegun, Wrote};
 ghost use Rattle.fl_trace.specs.Text.{text_of};
 
-use crate::ahead::AheadLines;
+use crate::piece_lines::PieceLines;
+use crate::pieces::Pieces;
 use crate::point::ResumePoint;
 use fl_desk::Desk;
-use fl_history::{Journal, Line, Past, Recent};
+use fl_history::{Journal, Line, Past, Place, Recent};
 use fl_judge::Resumed;
 use fl_order::Told;
 use fl_session::{Fault, Recorded, resume_session};
@@ -21,7 +23,7 @@ use std::io::{Read, Write};
 /// A session that went on behind a trace, once it is over.
 #[derive(Drop)]
 pub struct ResumedRun<T> {
-    /// The file that got its lines.
+    /// The file that got its lines; if they stand in several pieces, those of the last.
     pub file: T,
     /// Why it ended early, if it did; `Unstored` if lines couldn't be written before their replies.
     pub fault: Option<Fault>,
@@ -29,7 +31,7 @@ pub struct ResumedRun<T> {
     pub refused: bool,
     /// A reply to the client didn't go out whole.
     pub broken: bool,
-    /// The file has the text of all lines.
+    /// The file has the text of all lines of its piece.
     pub whole: bool,
 }
 
@@ -38,17 +40,20 @@ pub struct ResumedRun<T> {
 /// client. If lines can't be written, no reply that waits for them goes out, and the session ends. A message that is
 /// sent again (`FUSE_UNIQUE_RESEND`) is answered as it was, or is new if the last lines lack it. All memory is there
 /// before.
-pub(crate) fn resume<R: Read, W: Write, T: Write + Drop>(
+pub(crate) fn resume<R: Read, W: Write, T: Write + Drop, P: Pieces<T> + Drop>(
     r: &mut R,
     w: &mut W,
     point: ResumePoint,
     file: T,
+    pieces: P,
+    spare: Option<StreamRoom>,
 ) -> ResumedRun<T>
     requires there { IsAs (T.contents file) (text_of point.resumed.past.items) }
     requires recent { point.recent ≡ point.resumed.past.items }
+    requires place { point.place ≡ place_of point.resumed.past.items }
     requires kept { IsKept (lines_at point) point.resumed.present }
     requires rules { point.resumed.present.rules ≡ point.session.rules }
-    ensures resumed { IsResumed point.session.rules (lines_at point) T.contents (record {
+    ensures resumed { IsResumed P.single point.session.rules (lines_at point) T.contents (record {
       left = R.remaining r.old;
       left_now = R.remaining r.new;
       held = W.contents w.old;
@@ -59,6 +64,7 @@ pub(crate) fn resume<R: Read, W: Write, T: Write + Drop>(
     let ResumePoint {
         resumed,
         recent,
+        place,
         session,
         stream,
         ..
@@ -68,10 +74,13 @@ pub(crate) fn resume<R: Read, W: Write, T: Write + Drop>(
         missing,
         past,
     } = resumed;
-    let journal = lines_behind(stream, file, &past, missing.as_slice());
+    let journal = PieceLines::behind(stream, spare, file, &past, place, pieces);
+    let journal = lines_behind(journal, missing.as_slice());
     let recent = recent_behind(recent, missing.as_slice());
     let desk = Desk::resume(journal, present);
-    let (recorded, broken) = resume_session(session, r, w, desk, recent);
+    // The file begins with no head, so there is no piece before it.
+    let heard = Past::new();
+    let (recorded, broken) = resume_session(session, r, w, desk, heard, recent);
     let Recorded {
         journal,
         fault,
@@ -80,7 +89,7 @@ pub(crate) fn resume<R: Read, W: Write, T: Write + Drop>(
     let Some(journal) = journal else {
         unreachable!()
     };
-    let (file, whole) = finish(journal.into_stream());
+    let (file, whole) = finish(journal.into_here().into_stream());
     ResumedRun {
         file,
         fault,
@@ -90,18 +99,15 @@ pub(crate) fn resume<R: Read, W: Write, T: Write + Drop>(
     }
 }
 
-// The lines of a trace and the replies that they lack, before a file that has the text of the former.
-fn lines_behind<T: Write>(
-    room: StreamRoom,
-    file: T,
-    past: &Past<Line>,
+// The lines of a trace and the replies that they lack.
+fn lines_behind<T: Write + Drop, P: Pieces<T> + Drop>(
+    mut journal: PieceLines<T, P>,
     missing: &[Told],
-) -> AheadLines<T>
-    requires there { IsAs (T.contents file) (text_of past.now.items) }
-    requires few { length missing.now ≤ 2048 }
-    ensures { result.lines ≡ past.now.items ++ told_lines missing.now }
+) -> PieceLines<T, P>
+    requires few { length missing.now ≤ min 2048 journal.here.room }
+    ensures lines { result.lines ≡ journal.lines ++ told_lines missing.now }
+    ensures piece { result.here.lines ≡ journal.here.lines ++ told_lines missing.now }
 {
-    let mut journal = AheadLines::behind(room, file, past);
     for told in missing {
         journal.push_told(told);
     }

@@ -1,6 +1,6 @@
 //! What a server goes on from.
 
-use fl_history::Recent;
+use fl_history::{Place, Recent};
 use fl_judge::Resumed;
 use fl_session::SessionRoom;
 use fl_stream::StreamRoom;
@@ -12,6 +12,8 @@ pub struct ResumePoint {
     pub resumed: Resumed,
     /// The last of the lines.
     pub recent: Recent,
+    /// Where the lines end.
+    pub place: Place,
     /// The bytes of the lines, each with its newline.
     pub bytes: u64,
     /// The memory of its session, and by which rules requests wait.

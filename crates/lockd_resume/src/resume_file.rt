@@ -4,6 +4,7 @@ ghost use Rattle.std.specs.Prelude.{◌≡◌, ◌⊎◌, ◌&&◌, ◌++◌, �
 ghost use Rattle.std.specs.Path.{path_bytes};
 ghost use Rattle.fl_desk.specs.Kept.{IsKept};
 ghost use Rattle.fl_audit.specs.First.{AreWholeLines, IsSoOfAll};
+ghost use Rattle.fl_history.specs.Place.{place_of};
 ghost use Rattle.fl_judge.specs.Present.{told_lines, HasPresent};
 ghost use Rattle.fl_transport.specs.declared.fault.Fault.{Fault as SessionFault};
 ghost use Rattle.lockd_resume.specs.Behind.{EndsBehind, FileSays, ServesBehind, ServesNobodyBehind};
@@ -13,6 +14,7 @@ ghost use Rattle.lockd_resume.specs.Resumed.{lines_at};
 
 use crate::ending::{end_unheard, end_unopened};
 use crate::observer::ResumeObserver;
+use crate::pieces::OnePiece;
 use crate::point::ResumePoint;
 use crate::resuming::resume_stream;
 use fl_audit::{AuditFault, Details, Heard, hear_cut};
@@ -99,7 +101,7 @@ pub fn resume_on<R: Net + Files + Clock, F: Write, N: Write + Drop, O: ResumeObs
     let mut w = Noting::new(Patient::new(&stream, &stream));
     let file = Retrying::new(Announcing::new(file, name, notices), rt, when);
     let socket = Some(&stream);
-    let (status, run) = resume_stream(&mut r, &mut w, point, file, socket, faults);
+    let (status, run) = resume_stream(&mut r, &mut w, point, file, OnePiece, None, socket, faults);
     let there = is_at(rt, Path::new(name), run.file.writer().file());
     let status = end_at(faults, status, run.whole, there);
     observer.ended(r.client(), w.failed());
@@ -191,6 +193,7 @@ pub fn resumed_from<S: Read>(
     ensures lines { IfOk result (λ point. IsSoOfAll (S.remaining file.old)
         (λ text. AreWholeLines text point.resumed.past.items point.bytes)) }
     ensures recent { IfOk result (λ point. point.recent ≡ point.resumed.past.items) }
+    ensures place { IfOk result (λ point. point.place ≡ place_of point.resumed.past.items) }
     ensures kept { IfOk result (λ point. IsKept (lines_at point) point.resumed.present) }
     ensures present { IfOk result (λ point. point.resumed.present.rules ≡ point.session.rules) }
     ensures rules { IfOk result (λ point. point.session.rules ≡ rules) }
@@ -208,17 +211,18 @@ pub fn resumed_from<S: Read>(
         bytes,
         recent,
     } = heard;
-    let headed = judge.place().headed;
+    let place = judge.place();
     let resumed = match gone_on(judge) {
         Ok(resumed) => resumed,
         Err(fault) => return Err(fault),
     };
-    if headed {
+    if place.headed {
         return Err(CommandFault::Trace);
     }
     Ok(ResumePoint {
         resumed,
         recent,
+        place,
         bytes,
         session,
         stream,

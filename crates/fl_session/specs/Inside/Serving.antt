@@ -18,6 +18,7 @@ abbrev pub session_with : {K : Type 0} → Server K → List (List ℕ) → Sess
 session_with server replies =
     record {
       rules = server.desk.present.rules;
+      heard = server.heard.items;
       resends = is_some server.recent;
       handshake = server.handshake;
       replies = replies;
@@ -26,10 +27,10 @@ session_with server replies =
     }
 
 -- There is room for the replies that an order gets by the rules of its desk. If the server recalls lines, these are
--- those of its desk.
+-- those that were heard before, and those of its desk.
 pub record IsReady {K : Type 0} (server : Server K) : Type 0 where
   pub room : HasRoom server.desk.present.rules server.tolds
-  pub recalls : IfSome server.recent (λ lines. lines ≡ server.desk.lines)
+  pub recalls : IfSome server.recent (λ lines. lines ≡ server.heard.items ++ server.desk.lines)
 
 -- no message came yet, and it is ready for the first
 pub record IsFresh {K : Type 0} (server : Server K) : Type 0 where
@@ -64,10 +65,12 @@ pub record AreTakenAgain {K : Type 0} (old new : Server K) (replies : List (List
   pub is : (before : List (List ℕ)) → session_with new (before ++ replies)
       ≡ with_orders_again (session_with old before) unique orders refused
 
--- what these lines say of a unique under these rules, unless a request of it is parked
-abbrev pub recalled_at : Rules → List Line → ℕ → Option Recalled
-recalled_at rules lines unique =
-    if is_parked unique (state_after rules lines).view.parked then None else Some (recalled unique (recent lines))
+-- What lines, with those that were heard before them, say of a unique under these rules, unless a request of it is
+-- parked.
+abbrev pub recalled_at : Rules → List Line → List Line → ℕ → Option Recalled
+recalled_at rules heard lines unique =
+    if is_parked unique (state_after rules lines).view.parked then None
+    else Some (recalled unique (recent (heard ++ lines)))
 
 -- the last lines with these behind them, if they are kept
 abbrev pub with_lines : Option (List Line) → List Line → Option (List Line)

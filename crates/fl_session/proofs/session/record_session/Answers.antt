@@ -14,9 +14,9 @@ returns-in_default-over-clause-served g c = unserved _ _ _ _ _ _ (ap (journal_li
     (c.nothing-in_default-over.ensures.read _ _ (Keeps-refl _)) (Keeps-refl _)
 
 pub returns-clause-served : goal.returns-clause-served
-returns-clause-served g c = rw (← c.in-Ok.ensures.rules) (served_alone _ _ _ _ g.J.Journal.lines g.J.Journal.stored _
-    c.in-Ok-over.ensures.lines c.serve_session.ensures.back c.serve_session.ensures.served)
+returns-clause-served g c = rw (← c.in-Ok.ensures.rules) (served_alone _ _ _ _ _ g.J.Journal.lines g.J.Journal.stored _
+    c.new-heard.ensures c.in-Ok-over.ensures.lines c.serve_session.ensures.back c.serve_session.ensures.served)
 
 pub returns-clause-ahead : goal.returns-clause-ahead
-returns-clause-ahead g c = rw (← c.in-Ok.ensures.rules) (ahead_alone _ _ _ _ g.J.Journal.lines g.J.Journal.stored _
-    c.in-Ok-over.ensures.lines c.serve_session.ensures.served)
+returns-clause-ahead g c = rw (← c.in-Ok.ensures.rules) (ahead_alone _ _ _ _ _ g.J.Journal.lines g.J.Journal.stored _
+    c.new-heard.ensures c.in-Ok-over.ensures.lines c.serve_session.ensures.served)

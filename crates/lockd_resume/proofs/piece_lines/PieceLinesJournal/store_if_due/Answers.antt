@@ -1,0 +1,12 @@
+use Rattle.std.proofs.Common.{subst}
+use mathlib.Core.List.{IsPrefix}
+use Rattle.lockd_resume.proofs.PieceLemmas.{more_stored}
+use Rattle.lockd_resume.specs.Pieced.{Pieced, behind_head, stored_of}
+use Rattle.lockd_resume.proofs.piece_lines.PieceLinesJournal.store_if_due.Goals as goal
+
+pub returns-clause-stored : goal.returns-clause-stored
+returns-clause-stored g c =
+    let before = c.self.inside.before.items in
+    let head = c.self.inside.head.items in
+    subst (λ (p : Pieced). IsPrefix (stored_of p) (behind_head before head c.store_if_due.new.self.noted)) c.self.view_is
+    (more_stored before head c.self.inside.here.noted c.store_if_due.new.self.noted c.store_if_due.ensures.stored)
