@@ -7,6 +7,7 @@ order had never come. `tests/shims/calls.c` refuses; it wants a C compiler and t
 import os
 import subprocess
 import sys
+import tempfile
 
 from tests import calls, fuse, worked
 from tests.tries import PATIENCE, TOP, each, line_of, run, text_of
@@ -134,6 +135,19 @@ def try_each_allocation_of_a_list():
             sayings.append(said)
         assert listed.count('"waits":true') == 2, listed
     return told(sayings)
+
+
+def try_each_allocation_of_pieces():
+    """A trace, and twice the head behind it."""
+    trace = printed("script", text=HELD_AND_WAITED_FOR)
+    head = printed("state", text=trace)
+    with tempfile.TemporaryDirectory() as folder:
+        for name, text in ("1", trace), ("2", head), ("3", head):
+            with open(f"{folder}/{name}", "w", encoding="ascii") as file:
+                file.write(text)
+        said, why = refuse_each("check PIECE..", "check", *(f"{folder}/{it}" for it in "123"), text="")
+    assert said == "legal\n", said
+    return told([why])
 
 
 def try_each_allocation_of_a_head():

@@ -173,6 +173,87 @@ def try_rules_that_a_head_names():
     assert said("check", *fair, text=found) == said("check", text=found) == b"legal\n"
 
 
+# ---- pieces in a row
+
+def in_pieces(trace, places):
+    """A trace that is cut before these lines: each piece but the first begins with the head behind the one before."""
+    lines, found = trace.splitlines(True), []
+    for begin, end in zip([0, *places], [*places, len(lines)]):
+        found.append((said("state", text=found[-1]) if found else b"") + b"".join(lines[begin:end]))
+    return found
+
+
+def judged(pieces, *words):
+    """What `check` says of the pieces in these files."""
+    with tempfile.TemporaryDirectory() as folder:
+        paths = [os.path.join(folder, str(number)) for number in range(1, len(pieces) + 1)]
+        for path, text in zip(paths, pieces):
+            with open(path, "wb") as file:
+                file.write(text)
+        ran = run("check", *words, *paths)
+        return ran.stdout.decode(), ran.stderr.decode().replace(folder + "/", ""), ran.returncode
+
+
+def try_pieces_in_a_row():
+    """Random traces, cut at up to four places behind an order's replies."""
+    numbers, count = random.Random(5), 0
+    for trace in traces(40):
+        places, lines = cuts(trace)
+        found = in_pieces(trace, sorted(numbers.sample(places[1:-1], numbers.randrange(1, 5))))
+        assert judged(found) == ("legal\n", "", 0), found
+        assert judged(found[1:]) == ("legal\n", "", 0), found
+        count += len(found)
+        # A reply that differs is found in its piece.
+        at = numbers.randrange(len(found))
+        rows = found[at].splitlines(True)
+        replies = [place for place, it in enumerate(rows) if it.startswith(b"tell ")]
+        if replies:
+            place = numbers.choice(replies)
+            rows[place] = b"tell %s err 71\n" % rows[place].split()[1]
+            assert judged([*found[:at], b"".join(rows), *found[at + 1:]]) == (f"differs {place + 1} of {at + 1}\n", "", 1)
+        if len(found) > 2:
+            assert judged([found[0], *found[2:]])[0] == "differs 1 of 2\n", "a piece is missing"
+    return f"{count} pieces"
+
+
+def try_seams_that_do_not_fit():
+    """The first line, if its numbers differ, and the head's last one, if it tells anything else."""
+    first = said("script", text=b"ask 0 1 1 0 0 0 create 0 420 61\nask 0 2 2 0 0 0 setlk 1 7 0 9 1 11 0\nask 0 3 2 0 0 0 setlkw 1 8 5 5 1 12 0\n")
+    ended = said("state", text=first)
+    begin, node, file, lock, wait, go = ended.splitlines(True)
+    assert judged([first, ended]) == ("legal\n", "", 0)
+    assert judged([first, ended, said("state", text=ended)]) == ("legal\n", "", 0)
+    for wrong in b"state 4 ", b"state 6 ":
+        assert judged([first, ended.replace(b"state 5 ", wrong)]) == ("differs 1 of 2\n", "", 1), wrong
+    for wrong in begin.replace(b" 3 2\n", b" 4 2\n"), begin.replace(b" 3 2\n", b" 3 3\n"):
+        assert judged([first, ended.replace(begin, wrong)]) == ("differs 1 of 2\n", "", 1), wrong
+    for parts in ([node, file, lock], [node, file], [node], [], [node.replace(b" 1 1 ", b" 2 1 "), file, lock, wait], [node, file, lock.replace(b" 0 9 ", b" 0 8 "), wait],
+                  [node, file, lock, wait.replace(b" 12 0", b" 13 0")], [node, file, lock, wait, b"wait 9 2 1 9 5 5 1 12 0\n"],
+                  [node, file, lock.replace(b" 0 9 ", b" 5 5 "), wait], [node.replace(b" 61\n", b" 62\n"), file, lock, wait]):
+        text = begin + b"".join(parts) + go
+        assert said("check", text=text) == b"legal\n", text
+        assert judged([first, text]) == (f"differs {len(parts) + 2} of 2\n", "", 1), text
+    # A lock may be told in two parts, and parts in another order.
+    for parts in [node, file, lock.replace(b" 0 9 ", b" 5 9 "), lock.replace(b" 0 9 ", b" 0 4 "), wait], [node, lock, file, wait]:
+        assert judged([first, begin + b"".join(parts) + go]) == ("legal\n", "", 0), parts
+    assert judged([first, first]) == ("differs 1 of 2\n", "", 1)
+    assert judged([first, b""])[2] == 1
+    assert judged([first, begin + node]) == ("differs 3 of 2\n", "", 1)
+    assert judged([first[:first.rindex(b"ask")] + b"ask 0 3 2 0 0 0 getattr\n", ended])[0] == "differs 6 of 1\n"
+    assert judged([first, ended + b"x\n"]) == ("", "bad line 7 of 2\n", 2)
+    assert judged([first, ended], "--runs", "4095")[0] == "differs 1 of 2\n"
+
+
+def try_pieces_that_cannot_be_read():
+    ran = run("check", "/nowhere/1", "/nowhere/2")
+    assert (ran.stdout, ran.returncode) == (b"", 2) and ran.stderr.startswith(b"read failed\n/nowhere/1: "), ran
+    for words in ["--quiet"], ["--cut"]:
+        ran = run("check", *words, "/nowhere/1")
+        assert (ran.stdout, ran.returncode) == (b"", 2) and b"error: " in ran.stderr, ran
+    ran = run("check", "-v", "/dev/null", "/")
+    assert (ran.stdout, ran.returncode) == (b"", 2) and ran.stderr.startswith(b"read failed\n/: "), ran
+
+
 def try_a_server_goes_on_behind_whole_traces_alone():
     with tempfile.TemporaryDirectory() as folder:
         path = os.path.join(folder, "trace")

@@ -298,6 +298,10 @@ ask 0 1|words are missing at its end
 ask 0 2 2 0 0 0 setlk 1 7 0 9 1 11|what stands behind setlk doesn't fit: see docs/TRACE.md
 ask 0 1 1 0 0 0 create 0 420 6A|the name of a file is written in lower case hex
 ask 0 1 1 0 0 0 lookup 6A|the name of a file is written in lower case hex
+state 0 0 4096 256|what stands behind state doesn't fit: see docs/TRACE.md
+lock 7 31 0 9 01 11 0|01 has a zero in front
+node 7 1 2 33188 0 0 61|what stands behind node doesn't fit: see docs/TRACE.md
+go 1|what stands behind go doesn't fit: see docs/TRACE.md
 ask 0 1 1 0 0 0 create 0 420 6g|what stands behind create doesn't fit: see docs/TRACE.md
 ask 0 1 1 0 0 0 lookup Xyz|what stands behind lookup doesn't fit: see docs/TRACE.md
 ask 0 1 1 0 0 0 lookup 61 6A|what stands behind lookup doesn't fit: see docs/TRACE.md

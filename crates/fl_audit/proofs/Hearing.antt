@@ -28,7 +28,7 @@ pub record IsHearing (most : Option ℕ) (before now : Keeping) (text rest : Lis
   pub parts : text ≡ text_of heard ++ rest
   pub count : length now.lines + length rest ≤ length before.lines + length text
   pub rules : now.rules ≡ before.rules
-  pub keeps : now.keeps ≡ before.keeps
+  pub along : now.along ≡ before.along
   pub within : IsWithin most (length now.lines)
 
 pub hearing_starts : (most : Option ℕ) (before : Keeping) (text : List ℕ) → IsWithin most (length before.lines) → IsHearing most before before text text
@@ -39,7 +39,7 @@ hearing_starts most before text within = record {
   parts = refl;
   count = omega arith;
   rules = refl;
-  keeps = refl;
+  along = refl;
   within = within;
 }
 
@@ -58,7 +58,7 @@ hearing_on most before now new text rest after line h wanted fits first is =
       parts = h.parts ∙ ap (λ t. text_of h.heard ++ t) first ∙ sym more;
       count = omega (arith, count, ap length first, ap length lines, length-append (line_text line) (10 ∷ after), length-append now.lines (line ∷ []));
       rules = ap (λ (k : Keeping). k.rules) is ∙ h.rules;
-      keeps = ap (λ (k : Keeping). k.keeps) is ∙ h.keeps;
+      along = ap (λ (k : Keeping). k.along) is ∙ h.along;
       within = one_more most (length now.lines) (length new.lines) h.within wanted (ap length lines ∙ length-append now.lines (line ∷ []));
     }
 

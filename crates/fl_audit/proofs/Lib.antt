@@ -1,4 +1,7 @@
 pub mod Following
 pub mod Hearing
+pub mod Joints
 pub mod Listening
 pub mod Newlines
+pub mod Wholes
+pub mod Sequences

@@ -2,3 +2,5 @@ pub mod Audit
 pub mod Details
 pub mod First
 pub mod Inside
+pub mod Pieces
+pub mod Rows

@@ -1,43 +1,47 @@
-//! A judge that hears lines, the last of them, if these are kept, and the line behind them that is bad.
+//! A judge that hears lines, what hears them beside it, and the line behind them that is bad.
 
-ghost use Rattle.std.specs.Prelude.{◌≡◌, ◌<◌, ◌^◌, ◌++◌, ◌∷◌, [], length, IfSome, is_some};
+ghost use Rattle.std.specs.Prelude.{◌≡◌, ◌<◌, ◌^◌, ◌++◌, ◌∷◌, [], length};
 ghost use Rattle.fl_audit.specs.Details.{AreDetailsOf};
-ghost use Rattle.fl_audit.specs.Inside.Keeping.{keeping};
+ghost use Rattle.fl_audit.specs.Inside.Keeping.{along, keeping};
+ghost use Rattle.fl_audit.specs.Inside.Seams.{IsBeside};
 
+use crate::beside::Beside;
 use crate::details::{BadLine, Details};
-use fl_history::{Line, Recent};
+use fl_history::Line;
 use fl_judge::Judge;
 use std::marker::Model;
 
-/// A judge, the last lines that it heard, if these are kept, and the line behind them, if it is bad. Contracts see the
-/// judge's rules and lines, and whether the last are kept.
+/// A judge, what heard the same lines beside it, and the line behind them, if it is bad. Contracts see the judge's rules
+/// and lines, and what is beside it.
 #[derive(Drop)]
 pub(crate) struct Hearer {
     judge: Judge,
-    recent: Option<Recent>,
+    beside: Beside,
     bad: BadLine,
 }
 
 impl Model for Hearer {
-    ghost use Rattle.std.specs.Prelude.{◌≡◌, IfSome, is_some};
-    ghost use Rattle.fl_audit.specs.Inside.Keeping.{Keeping, keeping};
+    ghost use Rattle.fl_audit.specs.Inside.Keeping.{Keeping, along, keeping, keeping_code};
+    ghost use Rattle.fl_audit.specs.Inside.Seams.{IsBeside};
 
     ghost Value = { Keeping };
 
-    ghost view = { λ h. keeping h.judge (is_some h.recent) };
+    ghost coded = { keeping_code };
 
-    ghost invariant = { λ h. IfSome h.recent (λ lines. lines ≡ h.judge.lines) };
+    ghost view = { λ h. keeping h.judge (along h.beside) };
+
+    ghost invariant = { λ h. IsBeside h.judge.rules h.judge.lines h.beside };
 }
 
 impl Hearer {
-    /// A judge, and the last of its lines, if these are to be kept.
-    pub(crate) fn new(judge: Judge, recent: Option<Recent>) -> Hearer
-        requires { IfSome recent (λ lines. lines ≡ judge.lines) }
-        ensures { result ≡ keeping judge (is_some recent) }
+    /// A judge, and what heard the same lines.
+    pub(crate) fn new(judge: Judge, beside: Beside) -> Hearer
+        requires { IsBeside judge.rules judge.lines beside }
+        ensures { result ≡ keeping judge (along beside) }
     {
         Hearer {
             judge,
-            recent,
+            beside,
             bad: BadLine::new(),
         }
     }
@@ -48,9 +52,7 @@ impl Hearer {
         ensures { self.new ≡ record self.old { lines = self.old.lines ++ line.now ∷ [] } }
     {
         self.judge.hear(line);
-        if let Some(recent) = &mut self.recent {
-            recent.push(line);
-        }
+        self.beside.hear(&self.judge, line);
     }
 
     /// The first line of this text is bad.
@@ -79,14 +81,14 @@ impl Hearer {
         self.judge.heard()
     }
 
-    /// The judge, and the last lines that it heard, if these were kept.
-    pub(crate) fn into_parts(self) -> (Judge, Option<Recent>)
+    /// The judge, and what heard the same lines.
+    pub(crate) fn into_parts(self) -> (Judge, Beside)
         ensures rules { result.0.rules ≡ self.rules }
         ensures lines { result.0.lines ≡ self.lines }
-        ensures recent { IfSome result.1 (λ lines. lines ≡ self.lines) }
-        ensures keeps { is_some result.1 ≡ self.keeps }
+        ensures beside { IsBeside self.rules self.lines result.1 }
+        ensures along { along result.1 ≡ self.along }
     {
-        let Hearer { judge, recent, .. } = self;
-        (judge, recent)
+        let Hearer { judge, beside, .. } = self;
+        (judge, beside)
     }
 }

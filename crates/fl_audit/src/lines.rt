@@ -43,7 +43,7 @@ pub(crate) fn hear_lines(
     ensures few { length judge.new.lines ≤ length judge.old.lines + length text.now }
     ensures within { IsWithin most (length judge.new.lines) }
     ensures rules { judge.new.rules ≡ judge.old.rules }
-    ensures keeps { judge.new.keeps ≡ judge.old.keeps }
+    ensures along { judge.new.along ≡ judge.old.along }
 {
     let mut rest = text;
     while has_newline(rest) {

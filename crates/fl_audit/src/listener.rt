@@ -1,19 +1,20 @@
 //! Reads a trace piece by piece, and has a judge hear its lines.
 
 ghost use Rattle.std.specs.Prelude.{◌≡◌, ◌≢◌, ◌↔◌, ◌+◌, ◌<◌, ◌≤◌, ◌^◌, ℕ, [], List, Option, length, take, drop, true, false, Err};
-ghost use Rattle.std.specs.Prelude.{IfOk, IfErr, OnErr, IfSome, IsNone, is_some};
+ghost use Rattle.std.specs.Prelude.{IfOk, IfErr, OnErr, IfSome, IsNone};
 ghost use Rattle.std.specs.Io.KnownBytes.{Consumes, IsAtEnd, Keeps};
 ghost use Rattle.fl_audit.specs.Details.{AreDetailsOf};
 ghost use Rattle.fl_audit.specs.Inside.Hearing.{IsRoomy, Listens, HearsOn, HasRead, AreJudged, IsBad};
 ghost use Rattle.fl_judge.specs.Hearing.{unheard};
-ghost use Rattle.fl_audit.specs.Inside.Keeping.{keeping};
+ghost use Rattle.fl_audit.specs.Inside.Keeping.{along, keeping};
+ghost use Rattle.fl_audit.specs.Inside.Seams.{IsBeside};
 
+use crate::beside::Beside;
 use crate::details::Details;
 use crate::finding::AuditFault;
 use crate::hearer::Hearer;
 use crate::lines::{Stopped, hear_lines};
 use fl_core::Rules;
-use fl_history::Recent;
 use fl_judge::Judge;
 use fl_order::NoMemory;
 use fl_trace::LINE_ROOM;
@@ -46,23 +47,22 @@ pub(crate) struct Listener {
 }
 
 impl Listener {
-    /// Nothing came yet, and these are the rules. It hears so many lines at most, or all, and keeps the last of them,
-    /// or none.
+    /// Nothing came yet, and these are the rules. It hears so many lines at most, or all, and so does what is beside it.
     pub(crate) fn new(
         alloc: Global,
         rules: Rules,
         most: Option<usize>,
-        recent: Option<Recent>,
+        beside: Beside,
     ) -> Result<Listener, NoMemory>
-        requires none { IfSome recent (λ lines. lines ≡ []) }
+        requires beside { IsBeside rules [] beside }
         ensures room { IfOk result IsRoomy }
-        ensures heard { IfOk result (λ listener. listener.judge ≡ keeping (unheard rules) (is_some recent)) }
+        ensures heard { IfOk result (λ listener. listener.judge ≡ keeping (unheard rules) (along beside)) }
         ensures most { IfOk result (λ listener. listener.most ≡ most) }
         ensures bytes { IfOk result (λ listener. listener.bytes ≡ 0) }
         ensures listens { IfOk result (Listens []) }
     {
         let unheard = Judge::new(alloc, rules)?;
-        let judge = Hearer::new(unheard, recent);
+        let judge = Hearer::new(unheard, beside);
         Ok(Listener {
             judge,
             bytes: 0,
@@ -82,7 +82,7 @@ impl Listener {
         ensures few { length self.new.judge.lines ≤ length self.old.judge.lines + 2 ^ 16 }
         ensures bytes { self.new.bytes ≤ self.old.bytes + 2 ^ 16 }
         ensures rules { self.new.judge.rules ≡ self.old.judge.rules }
-        ensures keeps { self.new.judge.keeps ≡ self.old.judge.keeps }
+        ensures along { self.new.judge.along ≡ self.old.judge.along }
         ensures most { self.new.most ≡ self.old.most }
         ensures reads { (left : Option (List ℕ)) → HasRead left (R.remaining input.old) self.old →
             HasRead left (R.remaining input.new) self.new }
@@ -109,7 +109,7 @@ impl Listener {
         ensures few { length self.new.judge.lines ≤ length self.old.judge.lines + 2 ^ 16 }
         ensures bytes { self.new.bytes ≤ self.old.bytes + 2 ^ 16 }
         ensures rules { self.new.judge.rules ≡ self.old.judge.rules }
-        ensures keeps { self.new.judge.keeps ≡ self.old.judge.keeps }
+        ensures along { self.new.judge.along ≡ self.old.judge.along }
         ensures most { self.new.most ≡ self.old.most }
         ensures hears { HearsOn self.old (take came (drop self.old.kept self.old.room.items)) self.new }
     {
@@ -135,7 +135,7 @@ impl Listener {
         requires room { IsRoomy self }
         requires few { length self.judge.lines < 2 ^ 63 }
         ensures rules { IfOk result (λ heard. heard.judge.rules ≡ self.judge.rules) }
-        ensures keeps { IfOk result (λ heard. heard.judge.keeps ≡ self.judge.keeps) }
+        ensures along { IfOk result (λ heard. heard.judge.along ≡ self.judge.along) }
         ensures few { IfOk result (λ heard. length heard.judge.lines < 2 ^ 63) }
         ensures heard { IfOk result (λ heard. (text : List ℕ) → Listens text self →
             AreJudged self.most cut text heard.judge.lines heard.bytes) }

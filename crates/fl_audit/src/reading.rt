@@ -1,12 +1,15 @@
 //! Reads a trace to its end, and says what is found.
 
-ghost use Rattle.std.specs.Prelude.{◌≡◌, ◌<◌, ◌^◌, ℕ, true, [], length, IfOk, IfSome, Err, is_some};
+ghost use Rattle.std.specs.Prelude.{◌≡◌, ◌<◌, ◌^◌, ℕ, true, [], length, IfOk, IfSome, Err};
 ghost use Rattle.fl_trace.specs.Text.{text_of, BreaksAt, Fits, LineFits};
 ghost use Rattle.fl_audit.specs.Audit.{judged_part, whole_lines, IsAudited};
 ghost use Rattle.fl_audit.specs.Details.{AreDetailsOf, AreDetailsIn};
 ghost use Rattle.fl_audit.specs.First.{AreFirstLines, AreWholeLines, IsSoOfAll, IsWithin};
 ghost use Rattle.fl_audit.specs.Inside.Hearing.{AreJudged, IsBad};
+ghost use Rattle.fl_audit.specs.Inside.Keeping.{along};
+ghost use Rattle.fl_audit.specs.Inside.Seams.{IsBeside};
 
+use crate::beside::Beside;
 use crate::details::Details;
 use crate::finding::{AuditFault, Audited, Heard, finding_of};
 use crate::listener::{Listened, Listener};
@@ -39,7 +42,7 @@ pub fn audit<R: Read>(
     ensures details { IfOk result (λ _.
         IsSoOfAll (R.remaining input.old) (λ text. AreDetailsIn rules (judged_part cut text) details.new)) }
 {
-    match hear_all(alloc, rules, None, cut, None, input, details) {
+    match hear_all(alloc, rules, None, cut, Beside::nothing(), input, details) {
         Ok(heard) => {
             let (judge, _) = heard.judge.into_parts();
             Ok(Audited {
@@ -71,7 +74,7 @@ pub fn hear_first<R: Read>(
         BreaksAt LineFits (whole_lines text) n × IsWithin most n) }
     ensures details { IfOk result (λ judge. AreDetailsOf judge.rules judge.lines details.new) }
 {
-    match hear_all(alloc, rules, most, true, None, input, details) {
+    match hear_all(alloc, rules, most, true, Beside::nothing(), input, details) {
         Ok(heard) => {
             let (judge, _) = heard.judge.into_parts();
             Ok(judge)
@@ -97,7 +100,7 @@ pub fn hear_whole<R: Read>(
         BreaksAt LineFits text n) }
     ensures details { IfOk result (λ judge. AreDetailsOf judge.rules judge.lines details.new) }
 {
-    match hear_all(alloc, rules, None, false, None, input, details) {
+    match hear_all(alloc, rules, None, false, Beside::nothing(), input, details) {
         Ok(heard) => {
             let (judge, _) = heard.judge.into_parts();
             Ok(judge)
@@ -127,8 +130,8 @@ pub fn hear_cut<R: Read>(
         BreaksAt LineFits (whole_lines text) n) }
     ensures details { IfOk result (λ heard. AreDetailsOf heard.judge.rules heard.judge.lines details.new) }
 {
-    let recent = Recent::new(alloc)?;
-    match hear_all(alloc, rules, None, true, Some(recent), input, details) {
+    let beside = Beside::keeping(Recent::new(alloc)?);
+    match hear_all(alloc, rules, None, true, beside, input, details) {
         Ok(heard) => Ok(all_heard(heard)),
         Err(fault) => Err(fault),
     }
@@ -136,14 +139,15 @@ pub fn hear_cut<R: Read>(
 
 // A judge that heard all lines, and kept the last of them.
 fn all_heard(heard: Listened) -> Heard
-    requires { heard.judge.keeps ≡ true }
+    requires { heard.judge.along.keeps ≡ true }
     ensures rules { result.judge.rules ≡ heard.judge.rules }
     ensures lines { result.judge.lines ≡ heard.judge.lines }
     ensures bytes { result.bytes ≡ heard.bytes }
     ensures recent { result.recent ≡ heard.judge.lines }
 {
     let Listened { judge, bytes } = heard;
-    let (judge, recent) = judge.into_parts();
+    let (judge, beside) = judge.into_parts();
+    let Beside { recent, .. } = beside;
     let Some(recent) = recent else { unreachable!() };
     Heard {
         judge,
@@ -153,19 +157,19 @@ fn all_heard(heard: Listened) -> Heard
 }
 
 // Reads a trace to its end, and gives a judge that heard its first lines: at most so many, or all. With `cut` what
-// follows the last newline is dropped, and else it is a bad line. If all are wanted, their bytes are counted. The judge
-// keeps the last lines, or none. `details` gets what is told of the lines.
-fn hear_all<R: Read>(
+// follows the last newline is dropped, and else it is a bad line. If all are wanted, their bytes are counted. What is
+// beside the judge hears the same. `details` gets what is told of the lines.
+pub(crate) fn hear_all<R: Read>(
     alloc: Global,
     rules: Rules,
     most: Option<usize>,
     cut: bool,
-    recent: Option<Recent>,
+    beside: Beside,
     input: &mut R,
     details: &mut Details,
 ) -> Result<Listened, AuditFault>
-    requires none { IfSome recent (λ lines. lines ≡ []) }
-    ensures keeps { IfOk result (λ heard. heard.judge.keeps ≡ is_some recent) }
+    requires beside { IsBeside rules [] beside }
+    ensures along { IfOk result (λ heard. heard.judge.along ≡ along beside) }
     ensures rules { IfOk result (λ heard. heard.judge.rules ≡ rules) }
     ensures heard { IfOk result (λ heard.
         IsSoOfAll (R.remaining input.old) (λ text. AreJudged most cut text heard.judge.lines heard.bytes)) }
@@ -174,7 +178,7 @@ fn hear_all<R: Read>(
         IsSoOfAll (R.remaining input.old) (λ text. IsBad most cut text n) }
     ensures details { IfOk result (λ heard. AreDetailsOf heard.judge.rules heard.judge.lines details.new) }
 {
-    let mut listener = Listener::new(alloc, rules, most, recent)?;
+    let mut listener = Listener::new(alloc, rules, most, beside)?;
     for reads in 0..MOST_READS {
         let more = listener.read(input)?;
         if !more {

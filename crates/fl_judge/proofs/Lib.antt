@@ -1,3 +1,4 @@
+pub mod Alone
 pub mod Calm
 pub mod Circles
 pub mod Differences

@@ -145,7 +145,7 @@ present_exactly goes_on lines now r None false same b head up = (
 )
 
 -- then they lead to what the replay has, with the replies that are due
-present_lacks : (lines : List Line) (now : Hearing) (r : Replay) (o : Option ℕ) → seen r lines ≡ now → HasPresent now.rules now.lines → Stands lines r o
+pub present_lacks : (lines : List Line) (now : Hearing) (r : Replay) (o : Option ℕ) → seen r lines ≡ now → HasPresent now.rules now.lines → Stands lines r o
     → LacksReplies lines r
 present_lacks lines now r None same has up =
     lacking lines r (λ telling. has.outside (subst (λ (h : Hearing). IsInsideHead h.lines) same (inside lines r telling up))) up

@@ -1,7 +1,10 @@
 //! The judge: what it says of the lines that it heard.
 
 ghost use Rattle.std.specs.Prelude.{◌≡◌, ◌↔◌, ◌<◌, ◌≤◌, ◌^◌, ◌++◌, ◌∷◌, [], true, length, IfOk, IfSome, IsSome};
-ghost use Rattle.fl_desk.specs.Legal.{orders_asked};
+ghost use Rattle.fl_core.specs.State.{snapshot_of};
+ghost use Rattle.fl_desk.specs.Heads.{IsHead};
+ghost use Rattle.fl_desk.specs.Legal.{orders_asked, IsLegal};
+ghost use Rattle.fl_desk.specs.Replay.{state_after};
 ghost use Rattle.fl_judge.specs.Verdicts.{IsBeginning, IsVerdict};
 ghost use Rattle.fl_judge.specs.Difference.{IsDifferenceOf};
 ghost use Rattle.fl_judge.specs.Hearing.{unheard};
@@ -155,6 +158,18 @@ impl Judge {
         }
     }
 
+    /// What is told, if the lines that it heard are a head that can be told under its rules, whole and alone.
+    pub fn told(&self) -> Option<&Core>
+        ensures some { IsSome result ↔ IsHead self.now.rules self.now.lines }
+        ensures is { IfSome result (λ core. core.now ≡ snapshot_of (state_after self.now.rules self.now.lines)) }
+    {
+        if self.has_told() {
+            Some(&self.replay.core)
+        } else {
+            None
+        }
+    }
+
     /// What a server goes on from after the lines that it heard: what is there, and the replies that are missing at
     /// their end. None if `present` has nothing. It takes no memory.
     pub fn into_resumed(self) -> Option<Resumed>
@@ -162,6 +177,8 @@ impl Judge {
         ensures past { IfSome result (λ r. r.past.items ≡ self.lines) }
         ensures kept { IfSome result (λ r. IsKept (self.lines ++ told_lines r.missing) r.present) }
         ensures rules { IfSome result (λ r. r.present.rules ≡ self.rules) }
+        ensures legal { IfSome result (λ r. IsLegal self.rules self.lines →
+            r.present ≡ snapshot_of (state_after self.rules self.lines)) }
     {
         if !self.is_present() {
             return None;
@@ -196,6 +213,22 @@ impl Judge {
             ..
         } = self;
         differs.is_none() && replay.quiet
+    }
+
+    // Whether the lines that it heard are a head, whole and alone.
+    fn has_told(&self) -> bool
+        ensures told { (result ≡ true) ↔ IsHead self.now.rules self.now.lines }
+        ensures present { result ≡ true → HasPresent self.now.rules self.now.lines }
+    {
+        a_head_leads_to_what_it_tells();
+        self.asks_nothing() && self.is_present()
+    }
+
+    // Whether it heard lines, and no order.
+    fn asks_nothing(&self) -> bool
+        ensures { (result ≡ true) ↔ ((0 < length self.now.lines) × (orders_asked self.now.lines ≡ 0)) }
+    {
+        self.heard > 0 && self.orders == 0
     }
 
     // Whether something is there after the lines that it heard.

@@ -20,7 +20,7 @@ ghost use Rattle.lockd_cli.specs.Numbers.{HasWorkers};
 
 use lockd_cli::{Asked, CommandLine, UsageError, print_version, read_words};
 use lockd_commands::{CommandFault, Status};
-use lockd_stdio::{Host, bytes, check, drive, locks, script, state};
+use lockd_stdio::{Host, bytes, check, check_pieces, drive, locks, script, state};
 use serving::{resume, serve};
 use std::fs::Files;
 use std::io::Write;
@@ -63,7 +63,18 @@ fn run<T: Threads + Wait + Net + Files + Sync>(
         Asked::Script(rules) => script(host, *rules),
         Asked::Bytes(rules) => bytes(host, *rules),
         Asked::State(rules) => state(host, *rules),
-        Asked::Check { quiet, cut, rules } => check(host, *rules, *quiet, *cut),
+        Asked::Check {
+            pieces,
+            quiet,
+            cut,
+            rules,
+        } => {
+            if pieces.is_empty() {
+                check(host, *rules, *quiet, *cut)
+            } else {
+                check_pieces(host, *rules, pieces.as_slice())
+            }
+        }
         Asked::Locks {
             at,
             file,

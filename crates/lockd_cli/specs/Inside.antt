@@ -1,10 +1,11 @@
 -- What a command line asks for, step by step: by the texts that `clap` found for its options. No contract of a public
 -- function cites these definitions.
 use Rattle.std.specs.Prelude.{◌≡◌, ◌≢◌, ◌≤◌, ◌<◌, ◌^◌, ◌⊎◌, ℕ, Bool, true, false, List, [], Option, None, Some, codes}
-use Rattle.std.specs.Prelude.{option_map, unwrap_or}
+use Rattle.std.specs.Prelude.{map, option_map, unwrap_or}
 use Rattle.std.specs.Str.Parse.{IsNumeral, digits_value, without_leading_plus}
 use Rattle.std.specs.String.{string_bytes}
-use Rattle.clap.specs.Words.{Text, first_value, found_of, one_text, rows_of, subcommand_name_of, subcommand_rows_of}
+use Rattle.clap.specs.Words.{Text, first_value, found_of, matched_of, one_text, raw_values, rows_of, subcommand_name_of}
+use Rattle.clap.specs.Words.{subcommand_rows_of}
 use Rattle.clap.specs.declared.parser.matches.ArgMatches.{ArgMatches}
 use Rattle.clap.specs.declared.parser.matches.Found.{Found}
 use Rattle.fl_waiting.specs.Limits.{AllowsFiles, AllowsOpen, AllowsParked, AllowsRuns}
@@ -115,13 +116,17 @@ Misfits found =
 abbrev pub socket_said : Found → List ℕ
 socket_said found = unwrap_or (first_value found (codes "SOCKET")) []
 
+-- the paths that are said for pieces
+abbrev pub pieces_said : Found → List Text
+pieces_said found = unwrap_or (option_map raw_values (matched_of found (codes "PIECE"))) []
+
 -- what options of its command ask for
 abbrev pub Ask : Found → Asked → Type 0
 Ask found (asked.Script rules) = SayRules found rules
 Ask found (asked.Bytes rules) = SayRules found rules
 Ask found (asked.State rules) = SayOwnRules found rules
-Ask found (asked.Check quiet cut rules) =
-    IsFlagOf (one_text found (codes "quiet")) quiet × IsFlagOf (one_text found (codes "cut")) cut
+Ask found (asked.Check pieces quiet cut rules) =
+    (map string_bytes pieces.items ≡ pieces_said found) × IsFlagOf (one_text found (codes "quiet")) quiet × IsFlagOf (one_text found (codes "cut")) cut
     × SayOwnRules found rules
 Ask found (asked.Locks at file json rules) =
     IsNumberSaid (one_text found (codes "at")) at
@@ -142,7 +147,7 @@ abbrev pub word_of : Asked → Text
 word_of (asked.Script rules) = codes "script"
 word_of (asked.Bytes rules) = codes "bytes"
 word_of (asked.State rules) = codes "state"
-word_of (asked.Check quiet cut rules) = codes "check"
+word_of (asked.Check pieces quiet cut rules) = codes "check"
 word_of (asked.Locks at file json rules) = codes "locks"
 word_of (asked.Serve socket workers trace rules) = codes "serve"
 word_of (asked.Resume socket file stuck rules) = codes "serve"

@@ -38,6 +38,8 @@ enum Kind {
     OneOf(&'static [&'static str]),
     // It is required, and no option.
     Positional,
+    // Any number of texts that aren't empty, which are no options.
+    Positionals,
 }
 
 const COMMANDS: &[Usage] = &[
@@ -55,7 +57,7 @@ const COMMANDS: &[Usage] = &[
     },
     Usage {
         name: "check",
-        about: "Judges the trace on standard input and prints legal, or differs and a line's number",
+        about: "Judges the trace on standard input, or the history that stands in these pieces, and prints legal, or differs and a line's number",
         own: CHECK,
         common: RULES,
     },
@@ -86,6 +88,12 @@ const COMMANDS: &[Usage] = &[
 ];
 
 const CHECK: &[Argument] = &[
+    Argument {
+        name: "PIECE",
+        help: "The paths of a history's pieces, the first of them first: each later one goes on from the one before",
+        kind: Kind::Positionals,
+        conflicts_with: &["quiet", "cut"],
+    },
     Argument {
         name: "quiet",
         help: "Prints after legal whether the trace is quiet: no owner asks for a record lock while it waits for one",
@@ -272,6 +280,7 @@ fn of_kind<'a>(arg: Arg<'a>, argument: &Argument) -> Arg<'a> {
     let name = argument.name;
     match argument.kind {
         Kind::Positional => positional(arg),
+        Kind::Positionals => positionals(arg),
         Kind::Flag(letter) => flag(arg, name, letter),
         Kind::Number => valued(arg, name, "N", number()),
         Kind::FromOneTo(most) => valued(arg, name, "N", from_one_to(most)),
@@ -282,6 +291,11 @@ fn of_kind<'a>(arg: Arg<'a>, argument: &Argument) -> Arg<'a> {
 
 fn positional<'a>(arg: Arg<'a>) -> Arg<'a> {
     arg.required(true).action(ArgAction::Set)
+}
+
+fn positionals<'a>(arg: Arg<'a>) -> Arg<'a> {
+    let arg = arg.num_args(1..).action(ArgAction::Append);
+    arg.value_parser(ValueParser::NonEmptyString)
 }
 
 fn flag<'a>(arg: Arg<'a>, name: &'static str, letter: Option<char>) -> Arg<'a> {

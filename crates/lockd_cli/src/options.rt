@@ -1,12 +1,13 @@
 //! What a command line asks for, read by `clap`.
 
-ghost use Rattle.std.specs.Prelude.{◌≡◌, ◌↔◌, ◌≤◌, ◌<◌, ◌^◌, ℕ, List, None, Some, IfErr, IfOk, OnOk, codes, option_map};
+ghost use Rattle.std.specs.Prelude.{◌≡◌, ◌↔◌, ◌≤◌, ◌<◌, ◌^◌, ◌++◌, ℕ, List, None, Some, IfErr, IfOk, OnOk, codes, map};
+ghost use Rattle.std.specs.Prelude.{option_map};
 ghost use Rattle.std.specs.String.{string_bytes};
 ghost use Rattle.clap.specs.Matches.{found_of, one_text};
 ghost use Rattle.clap.specs.Words.{first_value};
 ghost use Rattle.lockd_cli.specs.Inside.{Ask, AsksFor, AsksMore, IsNotForResume, IsNotForTrace, Misfits, MisfitsTrace};
 ghost use Rattle.lockd_cli.specs.Inside.{SayOwnRules, SayRules, SaysNoFull, SaysTrace, SaysWhenFull, SaysWhenStuck, Spells};
-ghost use Rattle.lockd_cli.specs.Inside.{socket_said, word_of};
+ghost use Rattle.lockd_cli.specs.Inside.{pieces_said, socket_said, word_of};
 ghost use Rattle.lockd_cli.specs.Numbers.{HasWorkers};
 
 use crate::command::lockd;
@@ -15,7 +16,7 @@ use crate::usage_error::UsageError;
 use clap::ArgMatches;
 use clap::error::ErrorKind;
 use fl_waiting::Rules;
-use std::alloc::Global;
+use std::alloc::{AllocError, Global};
 
 /// The most workers of a server.
 pub(crate) const MOST_WORKERS: u32 = 16;
@@ -39,9 +40,11 @@ pub enum Asked {
     Script(Rules),
     /// Answers messages in lines of hex and prints their replies.
     Bytes(Rules),
-    /// Judges a trace. It says whether the trace is quiet if that is asked, and takes one that may be cut off
-    /// if that is said.
+    /// Judges a trace, or the pieces of one. It says whether the trace is quiet if that is asked, and takes one that
+    /// may be cut off if that is said.
     Check {
+        /// The paths of the pieces; none, if it is the trace on standard input.
+        pieces: Vec<String>,
         /// Whether it is asked if the trace is quiet.
         quiet: bool,
         /// Whether the trace may be cut off.
@@ -165,7 +168,7 @@ fn asked_by(alloc: Global, matches: &ArgMatches<'_>) -> Result<Asked, UsageError
     match matches.subcommand() {
         Some(("script", options)) => Ok(Asked::Script(rules_of(options))),
         Some(("bytes", options)) => Ok(Asked::Bytes(rules_of(options))),
-        Some(("check", options)) => Ok(check_of(options)),
+        Some(("check", options)) => check_of(alloc, options),
         Some(("locks", options)) => locks_of(alloc, options),
         Some(("state", options)) => Ok(Asked::State(said_rules_of(options))),
         Some(("serve", options)) => serve_of(alloc, options),
@@ -204,16 +207,40 @@ fn number_of(options: &ArgMatches<'_>, name: &str) -> Option<u32>
 }
 
 // What the options of `check` ask for.
-fn check_of(options: &ArgMatches<'_>) -> Asked
-    ensures workers { HasWorkers result }
-    ensures check { word_of result ≡ codes "check" }
-    ensures said { Ask (found_of options.now) result }
+fn check_of(alloc: Global, options: &ArgMatches<'_>) -> Result<Asked, UsageError>
+    ensures workers { IfOk result HasWorkers }
+    ensures check { IfOk result (λ asked. word_of asked ≡ codes "check") }
+    ensures said { IfOk result (Ask (found_of options.now)) }
 {
-    Asked::Check {
+    let pieces = pieces_of(alloc, options)?;
+    Ok(Asked::Check {
+        pieces,
         quiet: options.get_flag("quiet"),
         cut: options.get_flag("cut"),
         rules: said_rules_of(options),
+    })
+}
+
+// The paths of the pieces that the options name.
+fn pieces_of(alloc: Global, options: &ArgMatches<'_>) -> Result<Vec<String>, UsageError>
+    ensures { IfOk result (λ pieces. map string_bytes pieces.items ≡ pieces_said (found_of options.now)) }
+{
+    let mut pieces = Vec::new(alloc);
+    if let Some(said) = options.get_strs("PIECE") {
+        push_all(alloc, &mut pieces, said)?;
     }
+    Ok(pieces)
+}
+
+// Puts these texts behind others.
+fn push_all(alloc: Global, texts: &mut Vec<String>, said: &[&str]) -> Result<(), AllocError>
+    ensures { OnOk result (map string_bytes texts.new.items
+        ≡ map string_bytes texts.old.items ++ map (λ s. s.now) said.now) }
+{
+    for text in said.iter() {
+        texts.push(String::from_str(alloc, text)?)?;
+    }
+    Ok(())
 }
 
 // What the options of `drive` ask for.

@@ -3,5 +3,7 @@ pub mod HexLemmas
 pub mod LocksLemmas
 pub mod OpeningLemmas
 pub mod ReplyLemmas
+pub mod RowLemmas
+pub mod RowLemmas
 pub mod ScriptLemmas
 pub mod StateLemmas

@@ -59,7 +59,12 @@ const CUT_OFF: Why<'_> = Why::Said(
     "no newline ends it: check --cut drops the end of a trace that was cut off",
 );
 
+// How the lines of a head begin.
+const HEAD_WORDS: [&[u8]; 6] = [b"state ", b"node ", b"file ", b"lock ", b"wait ", b"go"];
+
 const TOLD: Why<'_> = Why::Said("a script has orders alone: leave out the replies");
+
+const HEADED: Why<'_> = Why::Said("a script has orders alone: leave out the head");
 
 const EMPTY: Why<'_> = Why::Said("it is empty");
 
@@ -84,6 +89,9 @@ pub fn why_bad_order(text: &[u8], ended: bool) -> Why<'_> {
     }
     if text.starts_with(b"tell ") {
         return TOLD;
+    }
+    if HEAD_WORDS.iter().any(|word| text.starts_with(word)) {
+        return HEADED;
     }
     why_bad(text, ended)
 }
@@ -139,6 +147,8 @@ fn why_words(text: &str) -> Why<'_> {
     match word {
         "ask" => why_asked(rest),
         "tell" => why_told(rest),
+        "state" | "file" | "lock" | "wait" => why_fields(word, rest),
+        "node" | "go" => unfit(word),
         _ => Why::Word("it begins with ", word, ", and with neither ask nor tell"),
     }
 }

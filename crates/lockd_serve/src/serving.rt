@@ -157,6 +157,7 @@ where
     R: Threads + Wait + Sync,
     requires workers { (0 < staff.workers) × (staff.workers ≤ 16) }
     requires none { J.lines journal ≡ [] }
+    requires piece { J.piece journal ≡ [] }
     ensures served { HasServed staff.workers staff.rules (record {
       left = I.remaining r.old;
       left_now = I.remaining r.new;

@@ -1,9 +1,8 @@
 use Rattle.std.proofs.Common.{◌≡◌, ◌∙◌, Option, List, ℕ, length, ap, subst, arith}
-use Rattle.std.specs.Prelude.{is_some}
 use Rattle.fl_audit.proofs.Listening.{read_first, all_of, ok_map}
 use Rattle.fl_audit.proofs.reading.hear_all.Goals as goal
 use Rattle.fl_audit.specs.First.{IsSoOfAll}
-use Rattle.fl_audit.specs.Inside.Keeping.{Keeping}
+use Rattle.fl_audit.specs.Inside.Keeping.{Keeping, along}
 use Rattle.fl_audit.specs.declared.listener.Listened.{Listened}
 use Rattle.fl_audit.specs.Inside.Hearing.{Listens, HasRead, AreJudged, IsBad}
 
@@ -14,7 +13,7 @@ loop-reads-init g c = record {
   bytes = (let none = c.in_ok-listener.ensures.bytes in omega (arith, none));
   rules = ap (λ (h : Keeping). h.rules) c.in_ok-listener.ensures.heard;
   most = c.in_ok-listener.ensures.most;
-  keeps = ap (λ (h : Keeping). h.keeps) c.in_ok-listener.ensures.heard;
+  along = ap (λ (h : Keeping). h.along) c.in_ok-listener.ensures.heard;
   read = read_first _ _ c.in_ok-listener.ensures.listens;
 }
 
@@ -25,7 +24,7 @@ loop-reads-preserved g c = record {
   bytes = (let before = c.loop-reads.invariant.bytes in let more = c.read.ensures.bytes in omega (arith, before, more));
   rules = c.read.ensures.rules ∙ c.loop-reads.invariant.rules;
   most = c.read.ensures.most ∙ c.loop-reads.invariant.most;
-  keeps = c.read.ensures.keeps ∙ c.loop-reads.invariant.keeps;
+  along = c.read.ensures.along ∙ c.loop-reads.invariant.along;
   read = c.read.ensures.reads _ c.loop-reads.invariant.read;
 }
 
@@ -57,7 +56,7 @@ returns-then-not-more-clause-bad g c = λ n e.
     all_of left now so.text (λ text. IsBad c.args.most c.args.cut text n) so.read (c.in_ok-more.ensures.end c.if-not-more.true)
     (subst (λ m. IsBad m c.args.cut so.text n) most (c.end.ensures.bad n e so.text so.listens))
 
-pub returns-then-not-more-clause-keeps : goal.returns-then-not-more-clause-keeps
-returns-then-not-more-clause-keeps g c =
-    ok_map c.end.result (λ (heard : Listened). heard.judge.keeps ≡ c.read.new.self.judge.keeps) (λ heard. heard.judge.keeps ≡ is_some c.args.recent)
-    (λ heard same. same ∙ c.read.ensures.keeps ∙ c.loop-reads.invariant.keeps) c.end.ensures.keeps
+pub returns-then-not-more-clause-along : goal.returns-then-not-more-clause-along
+returns-then-not-more-clause-along g c =
+    ok_map c.end.result (λ (heard : Listened). heard.judge.along ≡ c.read.new.self.judge.along) (λ heard. heard.judge.along ≡ along c.args.beside)
+    (λ heard same. same ∙ c.read.ensures.along ∙ c.loop-reads.invariant.along) c.end.ensures.along

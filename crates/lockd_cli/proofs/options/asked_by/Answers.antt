@@ -1,6 +1,5 @@
-use Rattle.std.proofs.Common.{Ok, inl, rules, codes}
+use Rattle.std.proofs.Common.{inl, rules, codes}
 use Rattle.clap.specs.Matches.{found_of}
-use Rattle.lockd_cli.specs.declared.usage_error.UsageError.{UsageError}
 use Rattle.lockd_cli.proofs.AskedLemmas.{is_said, asked_so}
 use Rattle.lockd_cli.proofs.options.asked_by.Goals as goal
 
@@ -20,7 +19,7 @@ pub returns-in-Some-check-default-clause-said : goal.returns-in-Some-check-defau
 returns-in-Some-check-default-clause-said c =
     let found = found_of c.in-Some-check-default.options.now in
     let said = is_said c.args.matches.now (codes "check") found (search rules) (search rules) in
-    asked_so {E = UsageError} c.args.matches.now (codes "check") found (Ok c.check_of.result) said c.check_of.ensures.check c.check_of.ensures.said
+    asked_so c.args.matches.now (codes "check") found c.check_of.result said c.check_of.ensures.check c.check_of.ensures.said
 
 pub returns-in-Some-locks-default-clause-said : goal.returns-in-Some-locks-default-clause-said
 returns-in-Some-locks-default-clause-said c =

@@ -32,8 +32,8 @@ returns-in-Ok-clause-bytes g c = c.hear.ensures.bytes
 pub returns-in-Ok-clause-rules : goal.returns-in-Ok-clause-rules
 returns-in-Ok-clause-rules g c = c.hear.ensures.rules
 
-pub returns-in-Ok-clause-keeps : goal.returns-in-Ok-clause-keeps
-returns-in-Ok-clause-keeps g c = c.hear.ensures.keeps
+pub returns-in-Ok-clause-along : goal.returns-in-Ok-clause-along
+returns-in-Ok-clause-along g c = c.hear.ensures.along
 
 pub returns-in-Ok-clause-most : goal.returns-in-Ok-clause-most
 returns-in-Ok-clause-most g c = c.hear.ensures.most
