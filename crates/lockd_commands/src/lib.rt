@@ -8,8 +8,8 @@
 //! - one that ends well though its output couldn't be flushed;
 //! - a `locks_on` that tells `differs N` in part, or not at all;
 //! - a `check_on`, a `locks_on` or a `state_on` that gives other details of its lines, or none (`tests/commands/words.py`);
-//! - a `Kept` that keeps another text, and an `explain_trace`, `explain_script`, `explain_hex` or `explain_streams`
-//!   that says anything else (`tests/commands/words.py`, `tests/commands/texts.py`).
+//! - an `explain_trace`, `explain_script`, `explain_hex` or `explain_streams` that says anything else
+//!   (`tests/commands/words.py`, `tests/commands/texts.py`).
 //!
 //! `fl_stream_tests`, and the scripts of `tests/commands`, `tests/locks` and `tests/serve` refuse these.
 //!
@@ -20,7 +20,6 @@
 
 mod bytes;
 mod check;
-mod kept;
 mod locks;
 mod opening;
 mod row;
@@ -33,7 +32,6 @@ pub use check::{CheckOptions, check_on};
 pub use fl_audit::Details;
 pub use fl_core::Rules;
 pub use fl_trace::LINE_ROOM;
-pub use kept::Kept;
 pub use lockd_faults::{CommandFault, Noting, Status, end};
 pub use locks::{LocksOptions, locks_on};
 pub use opening::{Opening, read_opening};

@@ -4,7 +4,7 @@
 //! Each command is a function of `lockd_commands` or `lockd_drive`, and has its contract there. Contracts let through:
 //! - a function of a command (`script` .. `drive`) that gives it other rules or flags, or another path, or has another
 //!   status;
-//! - any line of `--verbose`, and one without that option;
+//! - any line of `--verbose`, and one without that option; a `Kept` that keeps another text;
 //! - a `hold_closed_streams` that holds none.
 //!
 //! The scripts of `tests/commands` and `tests/serve` meet these.
@@ -12,6 +12,7 @@
 
 mod descriptors;
 mod host;
+mod kept;
 mod pieces;
 mod reading;
 mod words;

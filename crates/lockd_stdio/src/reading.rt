@@ -2,12 +2,13 @@
 
 use crate::descriptors::hold_closed_streams;
 use crate::host::Host;
+use crate::kept::Kept;
 use crate::words::explain_unconnected;
 use lockd_cli::SaidRules;
 use lockd_commands::{
-    CheckOptions, CommandFault, Details, Kept, LINE_ROOM, LocksOptions, Noting, Opening, Rules,
-    Status, bytes_on, check_on, end, explain_hex, explain_script, explain_streams, explain_trace,
-    locks_on, read_opening, script_on, state_on,
+    CheckOptions, CommandFault, Details, LINE_ROOM, LocksOptions, Noting, Opening, Rules, Status,
+    bytes_on, check_on, end, explain_hex, explain_script, explain_streams, explain_trace, locks_on,
+    read_opening, script_on, state_on,
 };
 use lockd_drive::drive_on;
 use std::io;
