@@ -4,6 +4,5 @@ pub mod LocksLemmas
 pub mod OpeningLemmas
 pub mod ReplyLemmas
 pub mod RowLemmas
-pub mod RowLemmas
 pub mod ScriptLemmas
 pub mod StateLemmas
