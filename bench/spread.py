@@ -138,8 +138,11 @@ def followed(paths):
     for path in paths:
         session = Spread()
         with open(path, "rb") as it:
-            for order in read_trace(it.read()).orders:
-                session.take(order)
+            trace = read_trace(it.read())
+        if trace.head:
+            session.begin_with(trace.head)
+        for order in trace.orders:
+            session.take(order)
         names += session.on_names
         circles += session.circles
     return names, circles
