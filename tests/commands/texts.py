@@ -277,6 +277,15 @@ def try_what_is_said_of_a_difference():
     assert ran.stderr.decode() == f"differs 7\nline 7 of standard input: {four}the rules want an order there: no reply is due\n{OTHERS}", ran
 
 
+# Lines of heads, and what is wrong with them in a trace.
+HEAD_LINES = """
+state 0 0 4096 256|what stands behind state doesn't fit: see docs/TRACE.md
+lock 7 31 0 9 01 11 0|01 has a zero in front
+node 7 1 2 33188 0 0 61|what stands behind node doesn't fit: see docs/TRACE.md
+go 1|what stands behind go doesn't fit: see docs/TRACE.md
+"""
+
+
 def try_what_is_said_of_a_bad_line():
     """Each row has a line, and what is wrong with it."""
     rows = """
@@ -298,10 +307,6 @@ ask 0 1|words are missing at its end
 ask 0 2 2 0 0 0 setlk 1 7 0 9 1 11|what stands behind setlk doesn't fit: see docs/TRACE.md
 ask 0 1 1 0 0 0 create 0 420 6A|the name of a file is written in lower case hex
 ask 0 1 1 0 0 0 lookup 6A|the name of a file is written in lower case hex
-state 0 0 4096 256|what stands behind state doesn't fit: see docs/TRACE.md
-lock 7 31 0 9 01 11 0|01 has a zero in front
-node 7 1 2 33188 0 0 61|what stands behind node doesn't fit: see docs/TRACE.md
-go 1|what stands behind go doesn't fit: see docs/TRACE.md
 ask 0 1 1 0 0 0 create 0 420 6g|what stands behind create doesn't fit: see docs/TRACE.md
 ask 0 1 1 0 0 0 lookup Xyz|what stands behind lookup doesn't fit: see docs/TRACE.md
 ask 0 1 1 0 0 0 lookup 61 6A|what stands behind lookup doesn't fit: see docs/TRACE.md
@@ -315,6 +320,10 @@ ask 0 1 1 0 0 0 create 0 rw 61|rw is no number
         shown = line.replace("\r", "\\x0d").replace("\0", "\\x00").replace("\t", "\\x09")
         for command in "script", "check", "locks":
             says([command], f"{CREATED}{line}\n", "", f"bad line 2\nline 2 of standard input: {shown}\n{why}\n", 2)
+    for row in HEAD_LINES.strip("\n").split("\n"):
+        line, why = row.split("|")
+        for command, told in ("script", "a script has orders alone: leave out the head"), ("check", why), ("locks", why):
+            says([command], f"{CREATED}{line}\n", "", f"bad line 2\nline 2 of standard input: {line}\n{told}\n", 2)
     for line, why in (f"tell 1 okay\n", "no reply is named okay"), ("x" * 701 + "\n", "it is longer than any line of a trace"):
         shown = line[:699] + ".." if len(line) > 700 else line.strip()
         says(["check"], CREATED + line, "", f"bad line 2\nline 2 of standard input: {shown}\n{why}\n", 2)
