@@ -1,3 +1,4 @@
+pub mod PieceLemmas
 pub mod Pieces
 pub mod Prefixes
 pub mod Streaming

@@ -1,2 +1,3 @@
+pub mod Pieced
 pub mod Streams
 pub mod Inside

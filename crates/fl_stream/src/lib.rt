@@ -17,13 +17,19 @@
 //! `a_trace_is_read_and_printed_by_the_second_try` of `fl_stream_tests`, with each allocation refused in turn.
 #![tactic(auto)]
 
+mod ahead;
 mod manner;
+mod piece_lines;
+mod pieces;
 mod printing;
 mod streamed;
 mod text;
 mod writing;
 
+pub use ahead::AheadLines;
 pub use manner::WhenWriterFails;
+pub use piece_lines::PieceLines;
+pub use pieces::{OnePiece, Pieces};
 pub use printing::{TraceRoom, Unwritten, write_trace};
 pub use streamed::{StreamRoom, Streamed};
 pub use text::{TraceFault, has_text, print_trace, read_trace};

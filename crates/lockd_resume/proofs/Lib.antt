@@ -2,8 +2,6 @@ pub mod BehindLemmas
 pub mod CutTexts
 pub mod Histories
 pub mod Listings
-pub mod PieceLemmas
-pub mod Prefixes
 pub mod Sessions
 pub mod Steps
 pub mod Stored

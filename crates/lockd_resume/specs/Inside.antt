@@ -1,7 +1,6 @@
--- Why a server doesn't go on behind a trace, and the head that it tells. No contract of a public function cites these
+-- Why a server doesn't go on behind a trace. No contract of a public function cites these
 -- definitions.
-use Rattle.std.specs.Prelude.{◌≡◌, ℕ, List, [], Option, None, Some}
-use Rattle.fl_stream.specs.Streams.{Stream}
+use Rattle.std.specs.Prelude.{◌≡◌, ℕ, List}
 use Rattle.fl_judge.specs.Present.{HasPresent}
 use Rattle.fl_judge.specs.Verdicts.{DiffersAt}
 use Rattle.fl_history.specs.declared.history.Line.{Line}
@@ -23,8 +22,3 @@ pub record DiffersBy (rules : Rules) (lines : List Line) (fault : CommandFault) 
   pub is : fault ≡ command.Differs line
   pub differs : DiffersAt rules lines line
   pub none : HasPresent rules lines → ⊥
-
--- the lines of a stream, if there is one
-abbrev pub draft_lines : Option Stream → List Line
-draft_lines None = []
-draft_lines (Some stream) = stream.lines

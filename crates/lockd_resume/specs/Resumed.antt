@@ -14,7 +14,7 @@ use Rattle.fl_transport.specs.declared.fault.Fault.TheVariants.{NoMemory}
 use Rattle.fl_waiting.specs.declared.rules.Rules.{Rules}
 use Rattle.lockd_resume.specs.Behind.{EndsBehind}
 use Rattle.lockd_resume.specs.Ending.{Ending}
-use Rattle.lockd_resume.specs.Pieced.{behind_head}
+use Rattle.fl_stream.specs.Pieced.{behind_head}
 use Rattle.lockd_resume.specs.declared.behind.ResumedRun.{ResumedRun}
 use Rattle.lockd_resume.specs.declared.point.ResumePoint.{ResumePoint}
 

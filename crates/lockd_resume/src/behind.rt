@@ -9,15 +9,13 @@ ghost use Rattle.lockd_resume.specs.Resumed.{IsResumed, lines_at};
 ghost use Rattle.fl_stream.specs.Streams.{HoldsText, IsAs, IsBegun, Wrote};
 ghost use Rattle.fl_trace.specs.Text.{text_of};
 
-use crate::piece_lines::PieceLines;
-use crate::pieces::Pieces;
 use crate::point::ResumePoint;
 use fl_desk::Desk;
 use fl_history::{Journal, Line, Past, Place, Recent};
 use fl_judge::Resumed;
 use fl_order::Told;
 use fl_session::{Fault, Recorded, resume_session};
-use fl_stream::{StreamRoom, Streamed};
+use fl_stream::{PieceLines, Pieces, StreamRoom, Streamed};
 use std::io::{Read, Write};
 
 /// A session that went on behind a trace, once it is over.

@@ -11,7 +11,7 @@ ghost use Rattle.lockd_resume.specs.Behind.{EndsBehind};
 ghost use Rattle.lockd_resume.specs.Ending.{Ends, EndsUntraced, Prints, Traces, has_history, told_of};
 
 use fl_session::{Done, Fault, Recorded};
-use fl_stream::{Streamed, TraceRoom};
+use fl_stream::{AheadLines, Streamed, TraceRoom};
 use lockd_faults::{CommandFault, Status, end, print, print_fault};
 use lockd_streams::{Observer, Untraced};
 use std::io;
@@ -183,5 +183,21 @@ fn end_untraced<F: Write>(faults: &mut F, fault: Option<Fault>) -> Status
             print_fault(faults, CommandFault::TraceFailed);
             status
         }
+    }
+}
+
+/// What was recorded of a session, with the stream itself as its journal.
+pub fn streamed<T: Write>(recorded: Recorded<AheadLines<T>>) -> Recorded<Streamed<T>>
+    ensures { result ≡ recorded }
+{
+    let Recorded {
+        journal,
+        fault,
+        refused,
+    } = recorded;
+    Recorded {
+        journal: journal.map(AheadLines::into_stream),
+        fault,
+        refused,
     }
 }

@@ -29,24 +29,19 @@
 //! - what an observer is told: `tests/commands/words.py`, `tests/commands/texts.py`.
 #![tactic(auto)]
 
-mod ahead;
 mod behind;
 mod ending;
 mod hang_up;
 pub mod laws;
 mod observer;
-mod piece_lines;
-mod pieces;
 mod point;
 mod resume_file;
 mod resuming;
 
-pub use ahead::{AheadLines, streamed};
 pub use behind::ResumedRun;
-pub use ending::{end_printed, end_session, end_streamed, end_unheard, end_unopened};
+pub use ending::{end_printed, end_session, end_streamed, end_unheard, end_unopened, streamed};
 pub use hang_up::{HangUp, hang_up_if};
 pub use observer::ResumeObserver;
-pub use pieces::{OnePiece, Pieces};
 pub use point::ResumePoint;
 pub use resume_file::{resume_on, resumed_from};
 pub use resuming::resume_stream;

@@ -14,7 +14,6 @@ ghost use Rattle.lockd_resume.specs.Resumed.{lines_at};
 
 use crate::ending::{end_unheard, end_unopened};
 use crate::observer::ResumeObserver;
-use crate::pieces::OnePiece;
 use crate::point::ResumePoint;
 use crate::resuming::resume_stream;
 use fl_audit::{AuditFault, Details, Heard, hear_cut};
@@ -23,7 +22,7 @@ use fl_judge::laws::a_legal_history_has_a_present;
 use fl_judge::{Judge, Resumed, Verdict};
 use fl_order::NoMemory;
 use fl_session::SessionRoom;
-use fl_stream::StreamRoom;
+use fl_stream::{OnePiece, StreamRoom};
 use lockd_faults::{CommandFault, Noting, Status, end};
 use lockd_streams::{
     Announcing, OldSocket, Patient, Retrying, Spinning, Untraced, WhenUnwritten, connection,

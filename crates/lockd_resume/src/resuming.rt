@@ -11,9 +11,8 @@ ghost use Rattle.lockd_resume.specs.Resumed.{IsOverBehind, lines_at};
 use crate::behind::{ResumedRun, resume};
 use crate::ending::end_resumed;
 use crate::hang_up::{HangUp, hang_up_if};
-use crate::pieces::Pieces;
 use crate::point::ResumePoint;
-use fl_stream::StreamRoom;
+use fl_stream::{Pieces, StreamRoom};
 use lockd_faults::Status;
 use std::io::{Read, Write};
 

@@ -15,11 +15,9 @@ use crate::options::{ServeOptions, TraceTo};
 use fl_core::Rules;
 use fl_history::{Journal, Lines, NoJournal};
 use fl_serve::{OpenGate, Recorded, Staff, record_session, record_with_workers};
-use fl_stream::{Streamed, TraceRoom, WhenWriterFails};
+use fl_stream::{AheadLines, Streamed, TraceRoom, WhenWriterFails};
 use lockd_faults::{CommandFault, Status, end};
-use lockd_resume::{
-    AheadLines, HangUp, end_printed, end_session, end_streamed, hang_up_if, streamed,
-};
+use lockd_resume::{HangUp, end_printed, end_session, end_streamed, hang_up_if, streamed};
 use std::alloc::Global;
 use std::io::{Read, Write};
 use std::sync::Wait;

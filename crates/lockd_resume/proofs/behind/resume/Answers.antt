@@ -5,7 +5,7 @@ use Rattle.fl_history.specs.declared.history.Line.{Line}
 use Rattle.fl_judge.specs.Present.{told_lines}
 use mathlib.Core.List.{IsPrefix}
 use Rattle.lockd_resume.proofs.Stored.{served_as, so_of}
-use Rattle.lockd_resume.specs.Pieced.{Pieced, behind_head, stored_of}
+use Rattle.fl_stream.specs.Pieced.{Pieced, behind_head, stored_of}
 use Rattle.fl_stream.specs.Streams.{Stream}
 use Rattle.fl_transport.specs.Streams.{Streams}
 use Rattle.lockd_resume.proofs.behind.resume.Goals as goal

@@ -5,13 +5,13 @@ ghost use mathlib.Core.List.{IsPrefix};
 ghost use Rattle.fl_history.specs.Place.{place_of};
 ghost use Rattle.fl_stream.specs.Streams.{IsAs};
 ghost use Rattle.fl_trace.specs.Text.{text_of};
-ghost use Rattle.lockd_resume.specs.Pieced.{behind_head, stored_of};
+ghost use Rattle.fl_stream.specs.Pieced.{behind_head, stored_of};
 
 use crate::ahead::AheadLines;
 use crate::pieces::Pieces;
+use crate::streamed::StreamRoom;
 use fl_history::{Journal, Line, Past, Place};
 use fl_order::{NoMemory, Order, StateLine, Told};
-use fl_stream::StreamRoom;
 use std::io::Write;
 use std::marker::Model;
 use std::mem;
@@ -23,7 +23,7 @@ const LEAST_LINES: u64 = 65_536;
 /// Lines that go to a writer as their text before replies leave, in pieces: once one is due, the next begins with a
 /// head, before a writer of its own. The first piece has no head but that of its lines.
 #[derive(Drop)]
-pub(crate) struct PieceLines<T: Write, P: Pieces<T>> {
+pub struct PieceLines<T: Write, P: Pieces<T>> {
     lines: Past<Line>,
     // Where all lines end.
     place: Place,
@@ -43,8 +43,7 @@ impl<T: Write, P: Pieces<T>> Model for PieceLines<T, P> {
     ghost use Rattle.std.specs.Prelude.{◌≡◌, IsTrue, []};
     ghost use mathlib.Core.List.{IsPrefix};
     ghost use Rattle.fl_history.specs.Place.{place_of};
-    ghost use Rattle.lockd_resume.specs.Inside.{draft_lines};
-    ghost use Rattle.lockd_resume.specs.Pieced.{Pieced, behind_head};
+    ghost use Rattle.fl_stream.specs.Pieced.{Pieced, behind_head, draft_lines};
 
     ghost Value = { Pieced };
 
@@ -65,7 +64,7 @@ impl<T: Write, P: Pieces<T>> Model for PieceLines<T, P> {
 impl<T: Write + Drop, P: Pieces<T> + Drop> PieceLines<T, P> {
     /// These lines, which are one piece and end at this place, before a writer that has their text and nothing more.
     /// There is room for the text of its lines, and for that of another piece's head, or for none.
-    pub(crate) fn behind(
+    pub fn behind(
         room: StreamRoom,
         spare: Option<StreamRoom>,
         writer: T,
@@ -93,7 +92,7 @@ impl<T: Write + Drop, P: Pieces<T> + Drop> PieceLines<T, P> {
     }
 
     /// The stream of the piece at hand.
-    pub(crate) fn into_here(self) -> AheadLines<T>
+    pub fn into_here(self) -> AheadLines<T>
         ensures here { result ≡ self.here }
         ensures all { self.lines ≡ behind_head self.before self.head self.here.lines }
         ensures single { IsTrue P.single → (self.before ≡ []) × (self.head ≡ []) }

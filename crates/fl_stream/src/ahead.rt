@@ -7,10 +7,10 @@ ghost use Rattle.fl_stream.specs.Streams.{IsAs, IsBlank, Wrote};
 ghost use Rattle.fl_stream.specs.declared.manner.WhenWriterFails.TheVariants as manner;
 ghost use Rattle.fl_trace.specs.Text.{text_of};
 
+use crate::manner::WhenWriterFails;
+use crate::streamed::{StreamRoom, Streamed};
 use fl_history::{Journal, Line, Past};
 use fl_order::{NoMemory, Order, StateLine, Told};
-use fl_session::Recorded;
-use fl_stream::{StreamRoom, Streamed, WhenWriterFails};
 use std::alloc::Global;
 use std::io::Write;
 use std::marker::Model;
@@ -53,7 +53,7 @@ impl<T: Write> AheadLines<T> {
     }
 
     /// These lines, before a writer that has their text and nothing more.
-    pub(crate) fn behind(room: StreamRoom, writer: T, base: &Past<Line>) -> AheadLines<T>
+    pub fn behind(room: StreamRoom, writer: T, base: &Past<Line>) -> AheadLines<T>
         requires there { IsAs (T.contents writer) (text_of base.now.items) }
         ensures lines { result.lines ≡ base.now.items }
         ensures room { result.room ≡ 2048 }
@@ -64,7 +64,7 @@ impl<T: Write> AheadLines<T> {
     }
 
     /// These lines, before a writer to which their text was written and nothing more.
-    pub(crate) fn with_text(room: StreamRoom, writer: T, base: &Past<Line>) -> AheadLines<T>
+    pub fn with_text(room: StreamRoom, writer: T, base: &Past<Line>) -> AheadLines<T>
         requires there { Wrote T.contents (T.contents writer) (text_of base.now.items) }
         ensures lines { result.lines ≡ base.now.items }
         ensures noted { result.noted ≡ base.now.items }
@@ -76,21 +76,21 @@ impl<T: Write> AheadLines<T> {
     }
 
     /// All lines.
-    pub(crate) fn lines(&self) -> Past<Line>
+    pub fn lines(&self) -> Past<Line>
         ensures { result.items ≡ self.now.lines }
     {
         self.stream.lines()
     }
 
     /// Whether the writer has the text of all lines.
-    pub(crate) fn is_whole(&self) -> bool
+    pub fn is_whole(&self) -> bool
         ensures front { IsPrefix self.now.noted self.now.lines }
     {
         self.stream.is_whole()
     }
 
     /// A line more.
-    pub(crate) fn push(&mut self, line: &Line)
+    pub fn push(&mut self, line: &Line)
         requires room { 0 < self.old.room }
         ensures lines { self.new.lines ≡ self.old.lines ++ line.now ∷ [] }
         ensures noted { self.new.noted ≡ self.old.noted }
@@ -100,7 +100,7 @@ impl<T: Write> AheadLines<T> {
     }
 
     /// A line of a head more, if there is room for it. Says whether there was.
-    pub(crate) fn add_state(&mut self, state: &StateLine) -> bool
+    pub fn add_state(&mut self, state: &StateLine) -> bool
         ensures lines { result ≡ true → self.new.lines ≡ self.old.lines ++ line.State state.now ∷ [] }
         ensures refused { result ≡ false → self.new.lines ≡ self.old.lines }
     {
@@ -112,7 +112,7 @@ impl<T: Write> AheadLines<T> {
     }
 
     /// Writes what waits, and says whether the writer has the text of all lines then.
-    pub(crate) fn finish(&mut self) -> bool
+    pub fn finish(&mut self) -> bool
         ensures lines { self.new.lines ≡ self.old.lines }
         ensures all { IsTrue result → Wrote T.contents self.new.held (text_of self.new.lines) }
     {
@@ -120,7 +120,7 @@ impl<T: Write> AheadLines<T> {
     }
 
     /// The writer and the room, with nothing in it.
-    pub(crate) fn into_parts(self) -> (T, StreamRoom)
+    pub fn into_parts(self) -> (T, StreamRoom)
         ensures { T.contents result.0 ≡ self.held }
     {
         let AheadLines { stream } = self;
@@ -128,7 +128,7 @@ impl<T: Write> AheadLines<T> {
     }
 
     /// The stream, which never goes on without its writer.
-    pub(crate) fn into_stream(self) -> Streamed<T>
+    pub fn into_stream(self) -> Streamed<T>
         ensures value { result ≡ self }
         ensures front { IsPrefix self.noted self.lines }
     {
@@ -171,21 +171,5 @@ impl<T: Write> Journal for AheadLines<T> {
 
     fn store_if_due(&mut self) -> bool {
         self.stream.store_if_due()
-    }
-}
-
-/// What was recorded of a session, with the stream itself as its journal.
-pub fn streamed<T: Write>(recorded: Recorded<AheadLines<T>>) -> Recorded<Streamed<T>>
-    ensures { result ≡ recorded }
-{
-    let Recorded {
-        journal,
-        fault,
-        refused,
-    } = recorded;
-    Recorded {
-        journal: journal.map(AheadLines::into_stream),
-        fault,
-        refused,
     }
 }

@@ -1,5 +1,5 @@
 -- Lines that stand in pieces.
-use Rattle.std.specs.Prelude.{List, ◌++◌, drop, length}
+use Rattle.std.specs.Prelude.{List, [], ◌++◌, Option, None, Some, drop, length}
 use Rattle.fl_history.specs.declared.history.Line.{Line}
 use Rattle.fl_stream.specs.Streams.{Stream}
 
@@ -11,6 +11,11 @@ pub record Pieced : Type 0 where
   pub before : List Line
   pub head : List Line
   pub draft : List Line
+
+-- the lines of a stream, if there is one
+abbrev pub draft_lines : Option Stream → List Line
+draft_lines None = []
+draft_lines (Some stream) = stream.lines
 
 -- lines of a piece behind its head, behind all lines before it
 abbrev pub behind_head : List Line → List Line → List Line → List Line

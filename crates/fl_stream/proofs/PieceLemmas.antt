@@ -5,7 +5,7 @@ use Rattle.std.proofs.lemmas.List.{drop-append-le}
 use Rattle.std.proofs.Math.ListN.{drop_of_length-le}
 use mathlib.Core.List.{IsPrefix}
 use Rattle.fl_history.specs.declared.history.Line.{Line}
-use Rattle.lockd_resume.specs.Pieced.{behind_head}
+use Rattle.fl_stream.specs.Pieced.{behind_head}
 
 -- lines with others behind them
 grows : (xs ys more : List Line) → IsPrefix xs ys → IsPrefix xs (ys ++ more)

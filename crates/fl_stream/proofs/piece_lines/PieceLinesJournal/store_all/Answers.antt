@@ -1,8 +1,8 @@
 use Rattle.std.proofs.Common.{subst}
 use mathlib.Core.List.{IsPrefix}
-use Rattle.lockd_resume.proofs.PieceLemmas.{more_stored}
-use Rattle.lockd_resume.specs.Pieced.{Pieced, behind_head, stored_of}
-use Rattle.lockd_resume.proofs.piece_lines.PieceLinesJournal.store_all.Goals as goal
+use Rattle.fl_stream.proofs.PieceLemmas.{more_stored}
+use Rattle.fl_stream.specs.Pieced.{Pieced, behind_head, stored_of}
+use Rattle.fl_stream.proofs.piece_lines.PieceLinesJournal.store_all.Goals as goal
 
 pub returns-clause-stored : goal.returns-clause-stored
 returns-clause-stored g c =

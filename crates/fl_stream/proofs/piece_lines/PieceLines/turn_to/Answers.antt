@@ -1,8 +1,8 @@
 use Rattle.std.proofs.Common.{◌≡◌, ◌∙◌, ap, subst, sym}
 use mathlib.Core.List.{IsPrefix}
-use Rattle.lockd_resume.proofs.PieceLemmas.{turned_stored}
-use Rattle.lockd_resume.specs.Pieced.{Pieced, behind_head, stored_of}
-use Rattle.lockd_resume.proofs.piece_lines.PieceLines.turn_to.Goals as goal
+use Rattle.fl_stream.proofs.PieceLemmas.{turned_stored}
+use Rattle.fl_stream.specs.Pieced.{Pieced, behind_head, stored_of}
+use Rattle.fl_stream.proofs.piece_lines.PieceLines.turn_to.Goals as goal
 
 pub returns-clause-stored : goal.returns-clause-stored
 returns-clause-stored g c =
