@@ -1,10 +1,12 @@
 -- The last items of a list that grows, and what lines say of a unique, by what is kept of them.
-use Rattle.std.proofs.Common.{◌≡◌, ℕ, zero, suc, ◌+◌, ◌-◌, ◌≤◌, Bool, true, false, cond, ◌==◌, List, [], ◌∷◌, ◌++◌, length, drop}
-use Rattle.std.proofs.Common.{Some, refl, ap, sym, ◌∙◌, append-nil, arith}
+use Rattle.std.proofs.Common.{◌≡◌, ◌⊎◌, inl, inr, ℕ, zero, suc, ◌+◌, ◌-◌, ◌<◌, ◌≤◌, min, Bool, true, false, cond, ◌==◌, List, [], ◌∷◌, ◌++◌, length, drop}
+use Rattle.std.proofs.Common.{Some, refl, ap, sym, ◌∙◌, append-nil, append_assoc, arith, length-append}
+use Rattle.std.proofs.lemmas.Bool.{cases_lt}
 use Rattle.std.proofs.lemmas.List.{drop-append-le, drop-drop, length-drop, length_push}
 use Rattle.std.proofs.lemmas.List.Elements.{filter-append, filter_map-append}
+use Rattle.std.proofs.Math.Seq.{drop-append-add}
 use Rattle.std.specs.List.{cons_option, fold}
-use Rattle.fl_history.specs.Inside.Entries.{entry_of, entries_of, recalled_by, asks_of}
+use Rattle.fl_history.specs.Inside.Entries.{entry_of, entries_of, last_kept, recalled_by, asks_of}
 use Rattle.fl_history.specs.Recent.{with_ask, with_line, is_spoken, spoken, recalled, recent}
 use Rattle.fl_history.specs.declared.history.Line.{Line}
 use Rattle.fl_history.specs.declared.history.Line.TheVariants as line
@@ -19,14 +21,33 @@ use Rattle.fl_order.specs.declared.told.Told.{Told}
 abbrev keep_last : {A : Type 0} → ℕ → List A → List A
 keep_last n xs = drop (length xs - n) xs
 
-last_more : {A : Type 0} (n : ℕ) (xs : List A) (x : A) → keep_last n (keep_last n xs ++ x ∷ []) ≡ keep_last n (xs ++ x ∷ [])
-last_more {A} n xs x =
+last_more : {A : Type 0} (n : ℕ) (xs more : List A) → keep_last n (keep_last n xs ++ more) ≡ keep_last n (xs ++ more)
+last_more {A} n xs more =
     let cut : ℕ = length xs - n in
-    let whole : List A = xs ++ x ∷ [] in
-    let one_more : drop cut xs ++ x ∷ [] ≡ drop cut whole = sym (drop-append-le cut xs (x ∷ []) (omega arith)) in
+    let whole : List A = xs ++ more in
+    let with_more : drop cut xs ++ more ≡ drop cut whole = sym (drop-append-le cut xs more (omega arith)) in
     let places : cut + (length (drop cut whole) - n) ≡ length whole - n =
-    omega (arith, length-drop cut whole, length_push xs x) in
-    ap (keep_last n) one_more ∙ drop-drop (length (drop cut whole) - n) cut whole ∙ ap (λ m. drop m whole) places
+    omega (arith, length-drop cut whole, length-append xs more) in
+    ap (keep_last n) with_more ∙ drop-drop (length (drop cut whole) - n) cut whole ∙ ap (λ m. drop m whole) places
+
+-- the last of items that stand behind others
+last_behind : {A : Type 0} (n : ℕ) (xs ys : List A) → (n < length ys) ⊎ (length ys ≤ n)
+    → keep_last n (xs ++ keep_last n ys) ≡ keep_last n (xs ++ ys)
+last_behind {A} n xs ys (inl more) =
+    let cut : ℕ = length ys - n in
+    let kept : List A = drop cut ys in
+    let left : length (xs ++ kept) - n ≡ length xs + 0 =
+    omega (arith, more, length-append xs kept, length-drop cut ys) in
+    let right : length (xs ++ ys) - n ≡ length xs + cut = omega (arith, more, length-append xs ys) in
+    ap (λ m. drop m (xs ++ kept)) left ∙ drop-append-add xs kept 0 ∙ sym (drop-append-add xs ys cut)
+    ∙ ap (λ m. drop m (xs ++ ys)) (sym right)
+last_behind n xs ys (inr few) =
+    let none : length ys - n ≡ 0 = omega (arith, few) in
+    ap (λ m. keep_last n (xs ++ drop m ys)) none
+
+-- the last of the last
+last_joined : {A : Type 0} (n : ℕ) (xs ys : List A) → keep_last n (keep_last n xs ++ keep_last n ys) ≡ keep_last n (xs ++ ys)
+last_joined n xs ys = last_more n xs (keep_last n ys) ∙ last_behind n xs ys (cases_lt n (length ys))
 
 -- ---- what is kept of lines
 
@@ -61,21 +82,73 @@ pub few_kept : (lines : List Line) (kept : List Entry) → kept ≡ entries_of (
 few_kept lines kept is =
     omega (arith, ap length (is ∙ last_entries lines), length-drop (length (entries_of lines) - 65536) (entries_of lines))
 
--- an order or a reply more, behind the others or all but the first of them
-pub kept_more : (lines : List Line) (line : Line) (e : Entry) (old front : List Entry) → old ≡ entries_of (recent lines)
-    → front ≡ drop (length old + 1 - 65536) old → entry_of line ≡ Some e
-    → front ++ e ∷ [] ≡ entries_of (recent (lines ++ line ∷ []))
-kept_more lines line e old front is cut some =
-    let few = few_kept lines old is in
+-- one more, behind the others or all but the first of them
+one_pushed : (old : List Entry) (e : Entry) → length old ≤ 65536
+    → last_kept (old ++ e ∷ []) ≡ drop (length old + 1 - 65536) old ++ e ∷ []
+one_pushed old e few =
     let more : List Entry = old ++ e ∷ [] in
     let place : length more - 65536 ≡ length old + 1 - 65536 = omega (arith, length_push old e) in
-    let whole : keep_last 65536 more ≡ front ++ e ∷ [] =
     ap (λ m. drop m more) place ∙ drop-append-le (length old + 1 - 65536) old (e ∷ []) (omega (arith, few))
-    ∙ ap (λ es. es ++ e ∷ []) (sym cut) in
+
+-- an order or a reply more
+pub kept_more : (lines : List Line) (line : Line) (e : Entry) (old now : List Entry) → old ≡ entries_of (recent lines)
+    → now ≡ drop (length old + 1 - 65536) old ++ e ∷ [] → entry_of line ≡ Some e
+    → now ≡ entries_of (recent (lines ++ line ∷ []))
+kept_more lines line e old now is pushed some =
     let all : entries_of (lines ++ line ∷ []) ≡ entries_of lines ++ e ∷ [] =
     filter_map-append entry_of lines (line ∷ []) ∙ ap (λ kept. entries_of lines ++ cons_option kept []) some in
-    sym whole ∙ ap (λ es. keep_last 65536 (es ++ e ∷ [])) (is ∙ last_entries lines)
-    ∙ last_more 65536 (entries_of lines) e ∙ ap (keep_last 65536) (sym all) ∙ sym (last_entries (lines ++ line ∷ []))
+    pushed ∙ sym (one_pushed old e (few_kept lines old is)) ∙ ap (λ es. keep_last 65536 (es ++ e ∷ [])) (is ∙ last_entries lines)
+    ∙ last_more 65536 (entries_of lines) (e ∷ []) ∙ ap (keep_last 65536) (sym all) ∙ sym (last_entries (lines ++ line ∷ []))
+
+-- how many are kept
+pub many_kept : (lines : List Line) (kept : List Entry) → kept ≡ entries_of (recent lines)
+    → length kept ≡ min 65536 (length (spoken lines))
+many_kept lines kept is =
+    omega (arith, ap length (is ∙ last_entries lines), length-drop (length (entries_of lines) - 65536) (entries_of lines),
+        as_many lines)
+
+-- what is kept of lines, with others behind them
+pub kept_joined : (lines more : List Line) (old later now : List Entry) → old ≡ entries_of (recent lines)
+    → later ≡ entries_of (recent more) → now ≡ last_kept (old ++ later) → now ≡ entries_of (recent (lines ++ more))
+kept_joined lines more old later now is behind joined =
+    joined ∙ (λ i. last_kept ((is ∙ last_entries lines) i ++ (behind ∙ last_entries more) i))
+    ∙ last_joined 65536 (entries_of lines) (entries_of more)
+    ∙ ap last_kept (sym (filter_map-append entry_of lines more)) ∙ sym (last_entries (lines ++ more))
+
+-- some of what is kept of later lines was pushed behind what was there, and this is left
+pub record IsPushing (old later now left : List Entry) : Type 0 where
+  pub done : List Entry
+  pub parts : later ≡ done ++ left
+  pub kept : now ≡ last_kept (old ++ done)
+
+pub pushing_starts : (old later left : List Entry) → length old ≤ 65536 → later ≡ left → IsPushing old later old left
+pushing_starts old later left few is = record {
+  done = [];
+  parts = is;
+  kept =
+      let none : length (old ++ []) - 65536 ≡ 0 = omega (arith, few, length-append old []) in
+      sym (ap (λ m. drop m (old ++ [])) none ∙ append-nil old);
+}
+
+pub pushing_few : (old later now left : List Entry) → IsPushing old later now left → length now ≤ 65536
+pushing_few old later now left p =
+    omega (arith, ap length p.kept, length-drop (length (old ++ p.done) - 65536) (old ++ p.done))
+
+pub pushing_on : (old later now left next after : List Entry) (e : Entry) → IsPushing old later now left → left ≡ e ∷ next
+    → after ≡ drop (length now + 1 - 65536) now ++ e ∷ [] → IsPushing old later after next
+pushing_on old later now left next after e p first is = record {
+  done = p.done ++ e ∷ [];
+  parts = p.parts ∙ ap (λ l. p.done ++ l) first ∙ sym (append_assoc p.done (e ∷ []) next);
+  kept =
+      let few = pushing_few old later now left p in
+      is ∙ sym (one_pushed now e few) ∙ ap (λ es. last_kept (es ++ e ∷ [])) p.kept
+      ∙ last_more 65536 (old ++ p.done) (e ∷ []) ∙ ap last_kept (append_assoc old p.done (e ∷ []));
+}
+
+pub pushing_ends : (old later now left : List Entry) → IsPushing old later now left → length left ≡ 0
+    → now ≡ last_kept (old ++ later)
+pushing_ends old later now [] p none = p.kept ∙ ap (λ l. last_kept (old ++ l)) (sym (append-nil p.done) ∙ sym p.parts)
+pushing_ends old later now (e ∷ left) p none = absurd (omega (arith, none))
 
 -- a line of a head more changes nothing of the last orders and replies
 pub state_more : (lines : List Line) (told : StateLine) → recent (lines ++ line.State told ∷ []) ≡ recent lines

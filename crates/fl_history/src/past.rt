@@ -37,6 +37,14 @@ impl<T> Past<T> {
         Past { of: PhantomData }
     }
 
+    /// The same past, and that of another behind it.
+    #[inline(always)]
+    pub fn followed_by(&self, later: &Past<T>) -> Past<T>
+        ensures { result.items ≡ self.now.items ++ later.now.items }
+    {
+        Past { of: PhantomData }
+    }
+
     /// The same past.
     #[inline(always)]
     pub fn same(&self) -> Past<T>

@@ -1,9 +1,9 @@
 //! The last orders and replies of a history, and what they say of the order of a unique.
 
-ghost use Rattle.std.specs.Prelude.{◌≡◌, ◌≤◌, ◌<◌, ◌+◌, ◌-◌, ◌^◌, ◌++◌, ◌∷◌, [], length, drop, IfOk, Some};
+ghost use Rattle.std.specs.Prelude.{◌≡◌, ◌≤◌, ◌<◌, ◌+◌, ◌-◌, ◌^◌, ◌++◌, ◌∷◌, [], length, drop, min, IfOk, Some};
 ghost use Rattle.std.specs.VecDeque.{deque_capacity, deque_len};
-ghost use Rattle.fl_history.specs.Inside.Entries.{asks_of, entry_of, recalled_by};
-ghost use Rattle.fl_history.specs.Recent.{recalled, recent};
+ghost use Rattle.fl_history.specs.Inside.Entries.{asks_of, entry_of, last_kept, recalled_by};
+ghost use Rattle.fl_history.specs.Recent.{recalled, recent, spoken};
 ghost use Rattle.fl_history.specs.declared.history.Line.TheVariants as line;
 
 use crate::history::Line;
@@ -123,11 +123,23 @@ impl Recent {
         requires { entry_of line.now ≡ Some entry }
         ensures { self.new ≡ self.old ++ line.now ∷ [] }
     {
-        drop_oldest(&mut self.entries);
-        let Ok(()) = self.entries.push_back(entry) else {
-            unreachable!()
-        };
+        push_last(&mut self.entries, entry);
         self.past = self.past.and(line);
+    }
+
+    /// How many orders and replies are kept: all that were pushed, or 65,536.
+    pub fn kept(&self) -> usize
+        ensures { result ≡ min 65536 (length (spoken self.now)) }
+    {
+        self.entries.len()
+    }
+
+    /// The lines of another, behind these. It takes no memory.
+    pub fn extend(&mut self, later: &Recent)
+        ensures { self.new ≡ self.old ++ later.now }
+    {
+        push_all(&mut self.entries, &later.entries);
+        self.past = self.past.followed_by(&later.past);
     }
 
     /// What the last 65,536 orders and replies say of a unique.
@@ -142,14 +154,29 @@ impl Recent {
     }
 }
 
-// Leaves room for one more, of as many as are kept.
-fn drop_oldest(entries: &mut VecDeque<Entry>)
-    requires { length entries.old.items ≤ 65536 }
-    ensures front { entries.new.items ≡ drop (length entries.old.items + 1 - 65536) entries.old.items }
-    ensures room { deque_len entries.new < 65536 }
-    ensures capacity { deque_capacity entries.new ≡ deque_capacity entries.old }
+// Keeps as many of these and of others behind them as are kept, the last.
+fn push_all(entries: &mut VecDeque<Entry>, later: &VecDeque<Entry>)
+    requires few { length entries.old.items ≤ 65536 }
+    requires room { 65536 ≤ deque_capacity entries.old }
+    ensures items { entries.new.items ≡ last_kept (entries.old.items ++ later.now.items) }
+    ensures room { 65536 ≤ deque_capacity entries.new }
+{
+    for entry in later.iter() {
+        push_last(entries, *entry);
+    }
+}
+
+// One more, of as many as are kept: the oldest goes, if there is no room.
+fn push_last(entries: &mut VecDeque<Entry>, entry: Entry)
+    requires few { length entries.old.items ≤ 65536 }
+    requires room { 65536 ≤ deque_capacity entries.old }
+    ensures items { entries.new.items ≡ drop (length entries.old.items + 1 - 65536) entries.old.items ++ entry ∷ [] }
+    ensures room { 65536 ≤ deque_capacity entries.new }
 {
     if entries.len() >= KEPT {
         entries.pop_front();
     }
+    let Ok(()) = entries.push_back(entry) else {
+        unreachable!()
+    };
 }

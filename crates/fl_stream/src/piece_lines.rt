@@ -63,13 +63,15 @@ impl<T: Write, P: Pieces<T>> Model for PieceLines<T, P> {
 
 impl<T: Write + Drop, P: Pieces<T> + Drop> PieceLines<T, P> {
     /// These lines, which are one piece and end at this place, before a writer that has their text and nothing more.
-    /// There is room for the text of its lines, and for that of another piece's head, or for none.
+    /// There is room for the text of its lines, and for that of another piece's head, or for none. So many of the lines
+    /// are orders and replies; that there are 65,536 is as good as any greater number.
     pub fn behind(
         room: StreamRoom,
         spare: Option<StreamRoom>,
         writer: T,
         base: &Past<Line>,
         place: Place,
+        since: u64,
         pieces: P,
     ) -> PieceLines<T, P>
         requires there { IsAs (T.contents writer) (text_of base.now.items) }
@@ -81,7 +83,7 @@ impl<T: Write + Drop, P: Pieces<T> + Drop> PieceLines<T, P> {
         PieceLines {
             lines: base.same(),
             place,
-            since: if place.headed { 0 } else { place.lines },
+            since,
             here: AheadLines::behind(room, writer, base),
             before: Past::new(),
             head: Past::new(),
@@ -169,7 +171,7 @@ impl<T: Write + Drop, P: Pieces<T> + Drop> Journal for PieceLines<T, P> {
     }
 
     fn due(&self) -> Option<u64> {
-        if self.since >= LEAST_LINES && self.pieces.is_due(self.since) {
+        if self.since >= LEAST_LINES && self.pieces.is_due() {
             Some(self.place.lines)
         } else {
             None

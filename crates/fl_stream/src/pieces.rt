@@ -10,8 +10,8 @@ pub trait Pieces<T: Write> {
     /// There is one piece alone.
     ghost single: { Bool } = { false };
 
-    /// Whether a new piece is due: since the head of the one at hand, so many orders and replies came.
-    fn is_due(&self, lines: u64) -> bool;
+    /// Whether a new piece is due.
+    fn is_due(&self) -> bool;
 
     /// A writer for the next piece, which has nothing yet; none if there can't be one now.
     fn begin(&mut self) -> Option<T>
@@ -34,7 +34,7 @@ pub struct OnePiece;
 impl<T: Write> Pieces<T> for OnePiece {
     ghost single = { true };
 
-    fn is_due(&self, _lines: u64) -> bool {
+    fn is_due(&self) -> bool {
         false
     }
 

@@ -33,12 +33,14 @@
 #![tactic(auto)]
 
 mod observer;
+mod pieces;
 mod retrying;
 mod socket;
 mod spinning;
 mod trace_file;
 
 pub use observer::{Observer, Parting, Untraced};
+pub use pieces::{FilePieces, PieceWriter, Rotation, last_piece, open_piece};
 pub use retrying::{Announcing, Retrying, WhenUnwritten};
 pub use socket::{OldSocket, connection};
 pub use spinning::{Patient, Spinning};

@@ -12,7 +12,7 @@ use std::time::{Clock, Duration};
 const PAUSE: u64 = 100;
 
 /// Writes to a file, and tells the first of writes that fail, and the first behind it that takes all bytes that wait.
-/// Contracts see the file.
+/// Of a draft, the head of a next piece, it tells the first alone. Contracts see the file.
 #[derive(Drop)]
 pub struct Announcing<'a, T, N> {
     file: T,
@@ -20,6 +20,7 @@ pub struct Announcing<'a, T, N> {
     notices: N,
     // A write failed, and none took all bytes after it.
     failed: bool,
+    is_draft: bool,
 }
 
 impl<'a, T, N> Model for Announcing<'a, T, N> {
@@ -38,7 +39,30 @@ impl<'a, T: Write, N: Write> Announcing<'a, T, N> {
             name,
             notices,
             failed: false,
+            is_draft: false,
         }
+    }
+
+    /// To the file of the next piece of one of this name, while its head is written. If a failure was told before, none
+    /// is told again.
+    pub fn draft(file: T, name: &'a str, notices: N, told: bool) -> Announcing<'a, T, N>
+        ensures { result ≡ file }
+    {
+        Announcing {
+            file,
+            name,
+            notices,
+            failed: told,
+            is_draft: true,
+        }
+    }
+
+    // It is a draft no more.
+    fn settle(&mut self)
+        ensures { self.new ≡ self.old }
+    {
+        self.failed = false;
+        self.is_draft = false;
     }
 
     /// The file.
@@ -54,7 +78,12 @@ impl<'a, T: Write, N: Write> Announcing<'a, T, N> {
     {
         if !self.failed {
             self.failed = true;
-            let _ = writeln!(self.notices, "cannot write {}: {error}", self.name);
+            let what = if self.is_draft {
+                "no new piece of"
+            } else {
+                "cannot write"
+            };
+            let _ = writeln!(self.notices, "{what} {}: {error}", self.name);
         }
     }
 
@@ -62,7 +91,7 @@ impl<'a, T: Write, N: Write> Announcing<'a, T, N> {
     fn announce_recovery(&mut self)
         ensures { self.new ≡ self.old }
     {
-        if self.failed {
+        if self.failed && !self.is_draft {
             self.failed = false;
             let _ = writeln!(self.notices, "{} is written again", self.name);
         }
@@ -128,6 +157,16 @@ impl<'a, W: Write, C: Clock> Retrying<'a, W, C> {
             clock,
             when,
         }
+    }
+}
+
+impl<'a, T: Write, N: Write, C: Clock> Retrying<'a, Announcing<'a, T, N>, C> {
+    /// The draft of a piece counts from now on, and while it can't be written, this happens.
+    pub fn settle(&mut self, when: WhenUnwritten)
+        ensures { self.new ≡ self.old }
+    {
+        self.when = when;
+        self.writer.settle();
     }
 }
 

@@ -1,5 +1,5 @@
 -- What is kept of a line, to recall what lines say of a unique.
-use Rattle.std.specs.Prelude.{ℕ, ◌==◌, if◌then◌else◌, List, Option, None, Some}
+use Rattle.std.specs.Prelude.{ℕ, ◌-◌, ◌==◌, if◌then◌else◌, List, Option, None, Some, drop, length}
 use Rattle.std.specs.List.{filter_map}
 use Rattle.fl_history.specs.Recent.{with_ask}
 use Rattle.fl_history.specs.declared.history.Line.{Line}
@@ -18,6 +18,10 @@ entry_of (line.State state) = None
 -- what is kept of lines
 abbrev pub entries_of : List Line → List Entry
 entries_of lines = filter_map entry_of lines
+
+-- the last of these, as many as are kept of lines
+abbrev pub last_kept : List Entry → List Entry
+last_kept entries = drop (length entries - 65536) entries
 
 -- what lines say of the order of this unique, with one of which this is kept
 abbrev pub recalled_by : ℕ → Recalled → Entry → Recalled
