@@ -1,5 +1,5 @@
 pub mod PieceLemmas
-pub mod Pieces
+pub mod TextPieces
 pub mod Prefixes
 pub mod Streaming
 pub mod Places

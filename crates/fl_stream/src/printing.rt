@@ -56,7 +56,7 @@ pub fn write_trace<W: Write>(
 }
 
 // Writes the text of a history through this room, and says whether all of it is written and handed on.
-#[tactic(auto, using(crate::proofs::Pieces::printed_none))]
+#[tactic(auto, using(crate::proofs::TextPieces::printed_none))]
 fn write_lines<W: Write>(history: &History, waiting: &mut Vec<u8>, writer: &mut W) -> bool
     requires none { waiting.old.items ≡ [] }
     requires room { 700 ≤ vec_capacity waiting.old }
@@ -74,7 +74,7 @@ fn write_lines<W: Write>(history: &History, waiting: &mut Vec<u8>, writer: &mut 
 }
 
 // Writes what waits if there is no room for a line behind it, and says whether there is now.
-#[tactic(auto, using(crate::proofs::Pieces::moved_none))]
+#[tactic(auto, using(crate::proofs::TextPieces::moved_none))]
 fn make_room<W: Write>(waiting: &mut Vec<u8>, writer: &mut W) -> bool
     requires room { 700 ≤ vec_capacity waiting.old }
     ensures moved { Moves (W.contents writer.old) (W.contents writer.new) waiting.old.items waiting.new.items }
@@ -85,7 +85,7 @@ fn make_room<W: Write>(waiting: &mut Vec<u8>, writer: &mut W) -> bool
 }
 
 // Writes what waits and hands it on, and says whether that is done.
-#[tactic(auto, using(crate::proofs::Pieces::moved_kept))]
+#[tactic(auto, using(crate::proofs::TextPieces::moved_kept))]
 fn finish<W: Write>(waiting: &mut Vec<u8>, writer: &mut W) -> bool
     ensures moved { Moves (W.contents writer.old) (W.contents writer.new) waiting.old.items waiting.new.items }
     ensures all { IsTrue result → waiting.new.items ≡ [] }

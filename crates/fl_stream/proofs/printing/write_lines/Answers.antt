@@ -1,5 +1,5 @@
 use Rattle.std.proofs.Common.{arith}
-use Rattle.fl_stream.proofs.Pieces.{printed_all, printed_moved, printed_line, printed_some}
+use Rattle.fl_stream.proofs.TextPieces.{printed_all, printed_moved, printed_line, printed_some}
 use Rattle.fl_stream.proofs.printing.write_lines.Goals as goal
 
 pub returns-then-not-make_room-clause-begun : goal.returns-then-not-make_room-clause-begun

@@ -1,5 +1,5 @@
 use Rattle.std.proofs.Common.{◌≤◌, vec_capacity}
-use Rattle.fl_stream.proofs.Pieces.{IsPrintedTo}
+use Rattle.fl_stream.proofs.TextPieces.{IsPrintedTo}
 use Rattle.fl_stream.proofs.printing.write_lines.Given as goal
 
 -- the lines up to here are written, or wait
