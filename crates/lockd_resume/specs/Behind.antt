@@ -16,6 +16,7 @@ use Rattle.fl_waiting.specs.declared.rules.Rules.{Rules}
 use Rattle.lockd_faults.specs.declared.fault.CommandFault.{CommandFault}
 use Rattle.lockd_faults.specs.declared.fault.CommandFault.TheVariants as command
 use Rattle.lockd_resume.specs.Ending.{Ending, Ends, EndsUntraced, told_of}
+use Rattle.lockd_resume.specs.Heard.{AreEnough}
 
 -- No legal history begins with the whole lines of a text, or they end inside a head, and the line of this number is the
 -- first that breaks the rules.
@@ -26,18 +27,19 @@ pub record DiffersIn (rules : Rules) (text : List ℕ) (n : ℕ) : Type 0 where
   pub differs : DiffersAt rules lines n
   pub none : HasPresent rules lines → ⊥
 
--- the whole lines of a text begin with a line of a head
-pub record IsHeaded (text : List ℕ) : Type 0 where
+-- the whole lines of a text aren't enough to know messages that are sent again: they begin with a head, and lines of
+-- the piece before are missing
+pub record LacksLines (text : List ℕ) : Type 0 where
   pub lines : List Line
   pub bytes : ℕ
   pub are : AreWholeLines text lines bytes
-  pub headed : (place_of lines).headed ≡ true
+  pub lacks : AreEnough (place_of lines) lines → ⊥
 
 -- what a fault says of the text of a trace's file, from which no server goes on
 abbrev pub FileSays : Rules → List ℕ → CommandFault → Type 0
 FileSays rules text (command.BadLine n) = BreaksAt LineFits (whole_lines text) n
 FileSays rules text (command.Differs n) = DiffersIn rules text n
-FileSays rules text command.Trace = IsHeaded text
+FileSays rules text command.Trace = LacksLines text
 FileSays rules text command.NoMemory = ⊤
 FileSays rules text command.Read = ⊤
 FileSays rules text fault = ⊥
@@ -63,13 +65,15 @@ pub record ServesNobodyBehind (it : Ending) : Type 0 where
   pub before : IsBefore fault
   pub ends : Ends (Some fault) it
 
--- A session went on behind some lines, all lines together are legal, and this is what the server tells of it.
+-- A session heard some lines and went on behind others, all from these on are legal, and this is what the server tells
+-- of it.
 pub record ServesBehind (rules : Rules) (it : Ending) : Type 0 where
+  pub heard : List Line
   pub base : List Line
   pub streams : Streams
   pub broken : Bool
   pub whole : Bool
   pub done : Done
-  pub served : IsServedBehind rules [] base streams broken done
+  pub served : IsServedBehind rules heard base streams broken done
   pub legal : IsLegal rules done.history
   pub ends : EndsBehind done.fault whole it

@@ -1,5 +1,6 @@
 pub mod Behind
 pub mod Ending
+pub mod Heard
 pub mod Inside
 pub mod Resumed
 pub mod Said

@@ -22,13 +22,13 @@ use Rattle.lockd_resume.specs.declared.point.ResumePoint.{ResumePoint}
 abbrev pub lines_at : ResumePoint → List Line
 lines_at point = point.resumed.past.items ++ told_lines point.resumed.missing
 
--- A session was served behind these lines under these rules, where a message may be sent again, and all lines together
+-- A session heard some lines and was served behind these others under these rules, where a message may be sent again, and all lines together
 -- are legal. They stand in pieces (if `single`, in one): those of a piece follow its head, and those of the head tell what
 -- is there after all lines before. The file is that of the last piece. It has a prefix of its text, which may end within
 -- a line, and all of it if it is said to be whole. It has all text of the stored lines of the piece, which are the first
 -- of its lines. Whatever the client got are replies to the first of the very messages that came, whose lines are stored.
 -- `contents` is what a file says that it holds.
-pub record IsResumed {T : Type 0} (single : Bool) (rules : Rules) (base : List Line) (contents : T → Option (List ℕ))
+pub record IsResumed {T : Type 0} (single : Bool) (rules : Rules) (heard base : List Line) (contents : T → Option (List ℕ))
     (streams : Streams) (ended : ResumedRun T) : Type 0 where
   pub lines : List Line
   pub stored : List Line
@@ -36,7 +36,7 @@ pub record IsResumed {T : Type 0} (single : Bool) (rules : Rules) (base : List L
   pub head : List Line
   pub piece : List Line
   pub piece_stored : List Line
-  pub served : IsServedBehind rules [] base streams ended.broken
+  pub served : IsServedBehind rules heard base streams ended.broken
       (record { history = lines; fault = ended.fault; refused = ended.refused })
   pub legal : IsLegal rules lines
   pub is_piece : IsPiece rules lines piece
@@ -47,12 +47,12 @@ pub record IsResumed {T : Type 0} (single : Bool) (rules : Rules) (base : List L
   pub whole : IsTrue ended.whole → Wrote contents (contents ended.file) (text_of piece)
   pub there : HoldsText contents (contents ended.file) piece_stored
   pub front : IsPrefix piece_stored piece
-  pub ahead : IsAheadFrom (session_behind rules [] base true) served.came streams stored
+  pub ahead : IsAheadFrom (session_behind rules heard base true) served.came streams stored
 
--- A session went on behind these lines, and this is what the server leaves of it. All speaks of one and the same
+-- A session heard some lines and went on behind these others, and this is what the server leaves of it. All speaks of one and the same
 -- session: what was read and written, its lines, what the file has of them, its fault and what is told. It had memory.
-pub record IsOverBehind {T : Type 0} (single : Bool) (rules : Rules) (base : List Line)
+pub record IsOverBehind {T : Type 0} (single : Bool) (rules : Rules) (heard base : List Line)
     (contents : T → Option (List ℕ)) (streams : Streams) (it : Ending) (ended : ResumedRun T) : Type 0 where
-  pub resumed : IsResumed single rules base contents streams ended
+  pub resumed : IsResumed single rules heard base contents streams ended
   pub able : ended.fault ≢ Some NoMemory
   pub ends : EndsBehind ended.fault ended.whole it

@@ -47,11 +47,11 @@ pub(crate) fn resume<R: Read, W: Write, T: Write + Drop, P: Pieces<T> + Drop>(
     spare: Option<StreamRoom>,
 ) -> ResumedRun<T>
     requires there { IsAs (T.contents file) (text_of point.resumed.past.items) }
-    requires recent { point.recent ≡ point.resumed.past.items }
+    requires recent { point.recent ≡ point.heard.items ++ point.resumed.past.items }
     requires place { point.place ≡ place_of point.resumed.past.items }
     requires kept { IsKept (lines_at point) point.resumed.present }
     requires rules { point.resumed.present.rules ≡ point.session.rules }
-    ensures resumed { IsResumed P.single point.session.rules (lines_at point) T.contents (record {
+    ensures resumed { IsResumed P.single point.session.rules point.heard.items (lines_at point) T.contents (record {
       left = R.remaining r.old;
       left_now = R.remaining r.new;
       held = W.contents w.old;
@@ -61,7 +61,9 @@ pub(crate) fn resume<R: Read, W: Write, T: Write + Drop, P: Pieces<T> + Drop>(
 {
     let ResumePoint {
         resumed,
+        heard,
         recent,
+        since,
         place,
         session,
         stream,
@@ -72,12 +74,10 @@ pub(crate) fn resume<R: Read, W: Write, T: Write + Drop, P: Pieces<T> + Drop>(
         missing,
         past,
     } = resumed;
-    let journal = PieceLines::behind(stream, spare, file, &past, place, pieces);
+    let journal = PieceLines::behind(stream, spare, file, &past, place, since, pieces);
     let journal = lines_behind(journal, missing.as_slice());
     let recent = recent_behind(recent, missing.as_slice());
     let desk = Desk::resume(journal, present);
-    // The file begins with no head, so there is no piece before it.
-    let heard = Past::new();
     let (recorded, broken) = resume_session(session, r, w, desk, heard, recent);
     let Recorded {
         journal,

@@ -29,6 +29,7 @@
 //! - what an observer is told: `tests/commands/words.py`, `tests/commands/texts.py`.
 #![tactic(auto)]
 
+mod before;
 mod behind;
 mod ending;
 mod hang_up;
@@ -43,5 +44,5 @@ pub use ending::{end_printed, end_session, end_streamed, end_unheard, end_unopen
 pub use hang_up::{HangUp, hang_up_if};
 pub use observer::ResumeObserver;
 pub use point::ResumePoint;
-pub use resume_file::{resume_on, resumed_from};
+pub use resume_file::{Resuming, resume_on, resumed_from};
 pub use resuming::resume_stream;

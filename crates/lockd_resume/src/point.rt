@@ -1,6 +1,6 @@
 //! What a server goes on from.
 
-use fl_history::{Place, Recent};
+use fl_history::{Line, Past, Place, Recent};
 use fl_judge::Resumed;
 use fl_session::SessionRoom;
 use fl_stream::StreamRoom;
@@ -10,8 +10,12 @@ use fl_stream::StreamRoom;
 pub struct ResumePoint {
     /// What is there after the lines and the replies that they lack.
     pub resumed: Resumed,
-    /// The last of the lines.
+    /// The lines of the piece before, if they were read: of these and the others the last are known.
+    pub heard: Past<Line>,
+    /// The last of the lines, and of those that were heard before.
     pub recent: Recent,
+    /// How many of the file's last lines are orders and replies, up to 65,536.
+    pub since: u64,
     /// Where the lines end.
     pub place: Place,
     /// The bytes of the lines, each with its newline.

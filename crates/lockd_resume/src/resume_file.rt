@@ -9,10 +9,14 @@ ghost use Rattle.fl_judge.specs.Present.{told_lines, HasPresent};
 ghost use Rattle.fl_transport.specs.declared.fault.Fault.{Fault as SessionFault};
 ghost use Rattle.lockd_resume.specs.Behind.{EndsBehind, FileSays, ServesBehind, ServesNobodyBehind};
 ghost use Rattle.lockd_resume.specs.Ending.{Ending, Ends};
+ghost use Rattle.lockd_resume.specs.Heard.{AreEnough, IsHeardBefore, left_of};
 ghost use Rattle.lockd_resume.specs.Inside.{DiffersBy, told_of_reading};
 ghost use Rattle.lockd_resume.specs.Resumed.{lines_at};
 
+use crate::before::{LastLines, with_before};
+use crate::behind::ResumedRun;
 use crate::ending::{end_unheard, end_unopened};
+use crate::hang_up::HangUp;
 use crate::observer::ResumeObserver;
 use crate::point::ResumePoint;
 use crate::resuming::resume_stream;
@@ -25,40 +29,50 @@ use fl_session::SessionRoom;
 use fl_stream::{OnePiece, StreamRoom};
 use lockd_faults::{CommandFault, Noting, Status, end};
 use lockd_streams::{
-    Announcing, OldSocket, Patient, Retrying, Spinning, Untraced, WhenUnwritten, connection,
-    end_without_file, is_at,
+    Announcing, FilePieces, OldSocket, Patient, PieceWriter, Retrying, Rotation, Spinning,
+    Untraced, WhenUnwritten, connection, end_without_file, is_at, last_piece, open_piece,
 };
 use std::alloc::Global;
-use std::fs::{File, Files, TryLockError};
+use std::fs::{File, TryLockError};
 use std::io;
-use std::io::{Read, Write};
-use std::net::Net;
+use std::io::{ErrorKind, Read, Write};
 use std::path::Path;
-use std::time::Clock;
 
 // How a trace begins.
 const ASK: &[u8] = b"ask ";
 
+/// How a server goes on in a trace's file.
+#[derive(Clone, Copy)]
+pub struct Resuming<'a> {
+    /// The path of the file.
+    pub name: &'a str,
+    /// What happens while a write fails.
+    pub when: WhenUnwritten,
+    /// When the next piece of the trace begins; never, if that isn't said.
+    pub rotation: Option<Rotation>,
+}
+
 /// `lockd serve --resume`: goes on behind the lines of a trace's file, under these rules, with one worker. It listens
 /// as `lockd serve` does, but a socket's file at the path is replaced if nobody listens at it. Nothing was read of the
-/// file, which gets what is written behind what it has, and `name` is its path. If another server has it, it isn't
-/// there any more, is no regular file, begins with a head, or can't be locked or cut off, the fault is `Trace`.
+/// file, which gets what is written behind what it has. If another server has it, it isn't there any more, is no regular
+/// file, or can't be locked or cut off, the fault is `Trace`. So it is if it begins with a head, has fewer than 65,536
+/// orders and replies, and the piece before it (`last_piece`) is missing, isn't legal, or ends elsewhere.
 ///
 /// What follows the file's last newline is cut off, and the replies that its last order lacks are written to it. Then
 /// the lines of each order are written before any of its replies leaves. While a write fails, `when` says what happens,
-/// and `notices` gets a line of it. If no legal history begins with the file's lines, it stays as it is, `faults` gets
-/// `bad line` or `differs` with the line's number, and nobody is served. A text with no newline is a bad line, too, if
-/// it isn't cut off within a line of an order: the file may be no trace. A fault of the session is one line on
-/// `faults`, and behind it `trace failed` if the file lacks lines, or is gone. The observer is told what the server
-/// does, and after `cannot listen` and `cannot trace` why it serves nobody.
-pub fn resume_on<R: Net + Files + Clock, F: Write, N: Write + Drop, O: ResumeObserver>(
-    rt: &R,
+/// and `notices` gets a line of it. Before a read a new piece may begin (`FilePieces`). If no legal history begins with
+/// the file's lines, it stays as it is, `faults` gets `bad line` or `differs` with the line's number, and nobody is
+/// served. A text with no newline is a bad line, too, if it isn't cut off within a line of an order: the file may be no
+/// trace. A fault of the session is one line on `faults`, and behind it `trace failed` if the file of the last piece
+/// lacks lines, or is gone. The observer is told what the server does, and after `cannot listen` and `cannot trace` why
+/// it serves nobody.
+pub fn resume_on<F: Write, N: Write + Copy + Drop, O: ResumeObserver>(
+    rt: &HostRuntime,
     alloc: Global,
     path: Path<'_>,
     rules: Rules,
     mut file: File,
-    name: &str,
-    when: WhenUnwritten,
+    how: Resuming<'_>,
     faults: &mut F,
     notices: N,
     observer: &mut O,
@@ -75,13 +89,26 @@ pub fn resume_on<R: Net + Files + Clock, F: Write, N: Write + Drop, O: ResumeObs
       told_now = F.contents faults.new;
     }) }
 {
+    let name = how.name;
     if let Some(why) = untakable(rt, &file, name) {
         return end_unopened(faults, observer, why);
     }
     let mut details = Details::new();
-    let point = match resumed_from(alloc, rules, &mut file, &mut details) {
+    let beside = match beside(rt, alloc, &file, how, notices) {
+        Ok(beside) => beside,
+        Err(why) if why.kind() == ErrorKind::OutOfMemory => {
+            return end_unresumed(alloc, faults, observer, CommandFault::NoMemory, &details);
+        }
+        Err(why) => return end_unopened(faults, observer, Untraced::Unlisted(why)),
+    };
+    let Beside {
+        last,
+        before,
+        pieces,
+    } = beside;
+    let point = match resumed_from(alloc, rules, before, &mut file, &mut details) {
         Ok(point) => point,
-        Err(CommandFault::Trace) => return end_unopened(faults, observer, Untraced::Headed),
+        Err(CommandFault::Trace) => return end_unopened(faults, observer, Untraced::Headed(last)),
         Err(fault) => return end_unresumed(alloc, faults, observer, fault, &details),
     };
     let rest = details.bad.text();
@@ -98,9 +125,9 @@ pub fn resume_on<R: Net + Files + Clock, F: Write, N: Write + Drop, O: ResumeObs
     };
     let mut r = Spinning::new(&stream, &stream);
     let mut w = Noting::new(Patient::new(&stream, &stream));
-    let file = Retrying::new(Announcing::new(file, name, notices), rt, when);
+    let file = Retrying::new(Announcing::new(file, name, notices), rt, how.when);
     let socket = Some(&stream);
-    let (status, run) = resume_stream(&mut r, &mut w, point, file, OnePiece, None, socket, faults);
+    let (status, run) = resume_in(&mut r, &mut w, point, file, pieces, socket, faults);
     let there = is_at(rt, Path::new(name), run.file.writer().file());
     let status = end_at(faults, status, run.whole, there);
     observer.ended(r.client(), w.failed());
@@ -110,8 +137,76 @@ pub fn resume_on<R: Net + Files + Clock, F: Write, N: Write + Drop, O: ResumeObs
     status
 }
 
+// What stands beside a trace's file: the greatest number of a piece before it, that piece, and where the next ones go,
+// if there are any.
+#[derive(Drop)]
+struct Beside<'a, N> {
+    last: u64,
+    before: Option<File>,
+    pieces: Option<NextPieces<'a, N>>,
+}
+
+// Where the next pieces of a trace go, and the room for the text of a head.
+#[derive(Drop)]
+struct NextPieces<'a, N> {
+    files: FilePieces<'a, N>,
+    spare: StreamRoom,
+}
+
+// What stands beside this file. All memory that the next pieces need is there.
+fn beside<'a, N: Write + Copy + Drop>(
+    rt: &'a HostRuntime,
+    alloc: Global,
+    file: &File,
+    how: Resuming<'a>,
+    notices: N,
+) -> io::Result<Beside<'a, N>> {
+    let last = last_piece(rt, how.name, file)?;
+    let before = open_piece(rt, how.name, last)?;
+    let pieces = match how.rotation {
+        None => None,
+        Some(rotation) => {
+            let here = file.try_clone()?;
+            Some(NextPieces {
+                files: FilePieces::new(rt, how.name, here, last, rotation, how.when, notices)?,
+                spare: StreamRoom::new(alloc)?,
+            })
+        }
+    };
+    Ok(Beside {
+        last,
+        before,
+        pieces,
+    })
+}
+
+// Serves a session from this point, whose next pieces go there, or whose lines all go to this file.
+fn resume_in<'a, I: Read, C: Write, N: Write + Copy + Drop, H: HangUp, F: Write>(
+    r: &mut I,
+    w: &mut C,
+    point: ResumePoint,
+    file: PieceWriter<'a, N>,
+    pieces: Option<NextPieces<'a, N>>,
+    connection: Option<&H>,
+    faults: &mut F,
+) -> (Status, ResumedRun<PieceWriter<'a, N>>)
+    requires there { IsAs (File.contents file) (text_of point.resumed.past.items) }
+    requires recent { point.recent ≡ point.heard.items ++ point.resumed.past.items }
+    requires place { point.place ≡ place_of point.resumed.past.items }
+    requires kept { IsKept (lines_at point) point.resumed.present }
+    requires rules { point.resumed.present.rules ≡ point.session.rules }
+{
+    match pieces {
+        None => resume_stream(r, w, point, file, OnePiece, None, connection, faults),
+        Some(pieces) => {
+            let NextPieces { files, spare } = pieces;
+            resume_stream(r, w, point, file, files, Some(spare), connection, faults)
+        }
+    }
+}
+
 // Why a server can't take a file of this name, if it can't. It is locked, if it can.
-fn untakable<R: Files>(rt: &R, file: &File, name: &str) -> Option<Untraced> {
+fn untakable(rt: &HostRuntime, file: &File, name: &str) -> Option<Untraced> {
     match file.try_lock() {
         Err(TryLockError::WouldBlock) => Some(Untraced::Taken),
         Err(TryLockError::Error(why)) => Some(Untraced::Unlocked(why)),
@@ -182,16 +277,22 @@ fn end_at<F: Write>(faults: &mut F, status: Status, whole: bool, there: bool) ->
 }
 
 /// What a server goes on from behind the lines of a trace's file, under these rules: all its lines, up to the last
-/// newline. What is told of them goes to `details`. All memory that the server needs is made before the file is read.
-pub fn resumed_from<S: Read>(
+/// newline. If they begin with a head, and aren't enough to know messages that are sent again, it reads the piece before
+/// as well; without one that fits, the fault is `Trace`. What is told of the file's lines goes to `details`. All memory
+/// that the session needs is made before the file is read.
+pub fn resumed_from<S: Read, B: Read>(
     alloc: Global,
     rules: Rules,
+    before: Option<B>,
     file: &mut S,
     details: &mut Details,
 ) -> Result<ResumePoint, CommandFault>
     ensures lines { IfOk result (λ point. IsSoOfAll (S.remaining file.old)
         (λ text. AreWholeLines text point.resumed.past.items point.bytes)) }
-    ensures recent { IfOk result (λ point. point.recent ≡ point.resumed.past.items) }
+    ensures recent { IfOk result (λ point. point.recent ≡ point.heard.items ++ point.resumed.past.items) }
+    ensures heard { IfOk result (λ point.
+        IsHeardBefore rules (left_of B.remaining before) point.resumed.past.items point.heard.items) }
+    ensures enough { IfOk result (λ point. AreEnough point.place point.recent) }
     ensures place { IfOk result (λ point. point.place ≡ place_of point.resumed.past.items) }
     ensures kept { IfOk result (λ point. IsKept (lines_at point) point.resumed.present) }
     ensures present { IfOk result (λ point. point.resumed.present.rules ≡ point.session.rules) }
@@ -211,16 +312,21 @@ pub fn resumed_from<S: Read>(
         recent,
     } = heard;
     let place = judge.place();
+    let since = recent.kept() as u64;
     let resumed = match gone_on(judge) {
         Ok(resumed) => resumed,
         Err(fault) => return Err(fault),
     };
-    if place.headed {
-        return Err(CommandFault::Trace);
-    }
+    let last = match with_before(alloc, rules, before, recent, place) {
+        Ok(last) => last,
+        Err(fault) => return Err(fault),
+    };
+    let LastLines { past, recent } = last;
     Ok(ResumePoint {
         resumed,
+        heard: past,
         recent,
+        since,
         place,
         bytes,
         session,

@@ -1,6 +1,6 @@
 //! One session behind the lines of a trace, over a reader and two writers, and what is left of it.
 
-ghost use Rattle.std.specs.Prelude.{◌≡◌, ◌≢◌, None, IsTrue};
+ghost use Rattle.std.specs.Prelude.{◌≡◌, ◌≢◌, ◌++◌, None, IsTrue};
 ghost use Rattle.fl_desk.specs.Kept.{IsKept};
 ghost use Rattle.fl_history.specs.Place.{place_of};
 ghost use Rattle.fl_stream.specs.Streams.{IsAs};
@@ -35,11 +35,11 @@ pub fn resume_stream<I: Read, C: Write, T: Write + Drop, P: Pieces<T> + Drop, H:
     faults: &mut F,
 ) -> (Status, ResumedRun<T>)
     requires there { IsAs (T.contents file) (text_of point.resumed.past.items) }
-    requires recent { point.recent ≡ point.resumed.past.items }
+    requires recent { point.recent ≡ point.heard.items ++ point.resumed.past.items }
     requires place { point.place ≡ place_of point.resumed.past.items }
     requires kept { IsKept (lines_at point) point.resumed.present }
     requires rules { point.resumed.present.rules ≡ point.session.rules }
-    ensures over { IsOverBehind P.single point.session.rules (lines_at point) T.contents (record {
+    ensures over { IsOverBehind P.single point.session.rules point.heard.items (lines_at point) T.contents (record {
       left = I.remaining r.old;
       left_now = I.remaining r.new;
       held = C.contents w.old;

@@ -133,8 +133,14 @@ impl<R: Files, W: Write> Observer for ServerWords<'_, R, W> {
             Untraced::Gone => self.say(format_args!(
                 "{file}: another file is there by now, or none: try again"
             )),
-            Untraced::Headed => self.say(format_args!(
-                "{file} begins with a head: a server goes on behind a whole trace alone, since a message that is sent again would be taken twice"
+            Untraced::Headed(0) => self.say(format_args!(
+                "{file} goes on from a piece before it, which isn't there: {file}.N has its last orders, which may be sent again"
+            )),
+            Untraced::Headed(number) => self.say(format_args!(
+                "{file} doesn't go on from where {file}.{number} ends, or that isn't legal by these rules: put the piece before {file} back there"
+            )),
+            Untraced::Unlisted(why) => self.say(format_args!(
+                "{file}: its folder can't be listed, to find the pieces before it: {why}"
             )),
             Untraced::Irregular => self.say(format_args!(
                 "{file}: it is no regular file: name another"

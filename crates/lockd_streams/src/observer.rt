@@ -45,8 +45,12 @@ pub enum Parting {
 /// Why a server has no file for its trace.
 #[derive(Drop)]
 pub enum Untraced {
-    /// It begins with a head: of messages that are sent again, what stands before it isn't known.
-    Headed,
+    /// It begins with a head, and so few lines stand behind that the piece before is wanted, to know messages that are
+    /// sent again. That is the one of this number, and it isn't the one before, or has too few lines. There is none, if
+    /// the number is 0.
+    Headed(u64),
+    /// Its folder can't be listed, to find the piece before, for this reason.
+    Unlisted(io::Error),
     /// It can't be opened or made, for this reason.
     Unopened(io::Error),
     /// Another program has it locked.

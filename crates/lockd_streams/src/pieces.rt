@@ -38,7 +38,7 @@ pub type PieceWriter<'a, N> = Retrying<'a, Announcing<'a, File, N>, HostRuntime>
 pub struct FilePieces<'a, N> {
     rt: &'a HostRuntime,
     name: &'a str,
-    names: PieceNames,
+    names: PieceNames<'a>,
     // The file of the piece at hand, and of the next one, to ask for their sizes and numbers.
     here: File,
     next: Option<File>,
@@ -231,10 +231,16 @@ pub fn last_piece(rt: &HostRuntime, name: &str, file: &File) -> io::Result<u64> 
     Ok(last)
 }
 
-/// The piece of this number before a trace's file, to be read.
-pub fn open_piece(rt: &HostRuntime, name: &str, number: u64) -> io::Result<File> {
+/// The piece of this number before a trace's file, to be read: none, if it is 0, or can't be opened.
+pub fn open_piece(rt: &HostRuntime, name: &str, number: u64) -> Result<Option<File>, AllocError> {
+    if number == 0 {
+        return Ok(None);
+    }
     let mut names = PieceNames::of(rt.alloc(), name)?;
-    File::open(rt, names.numbered(number)?)
+    match names.numbered(number) {
+        Ok(path) => Ok(File::open(rt, path).ok()),
+        Err(_) => Ok(None),
+    }
 }
 
 // The folder of a path, and the name in it.
@@ -257,35 +263,38 @@ fn number_behind(found: &str, own: &str) -> Option<u64> {
 
 // The names of a trace's pieces, in a room that never grows.
 #[derive(Drop)]
-struct PieceNames {
+struct PieceNames<'a> {
+    name: &'a str,
     text: String,
-    // How many bytes of it are the name of the file and a dot.
-    base: usize,
 }
 
-impl PieceNames {
+impl<'a> PieceNames<'a> {
     // Those behind this name.
-    fn of(alloc: Global, name: &str) -> Result<PieceNames, AllocError> {
-        let mut text = String::with_capacity(alloc, name.len() + NUMBER_ROOM)?;
-        text.push_str(name)?;
-        text.push('.')?;
-        let base = text.len();
-        Ok(PieceNames { text, base })
+    fn of(alloc: Global, name: &'a str) -> Result<PieceNames<'a>, AllocError> {
+        let text = String::with_capacity(alloc, name.len() + NUMBER_ROOM)?;
+        Ok(PieceNames { name, text })
     }
 
     // That of the next piece, while its head is written.
     fn next(&mut self) -> io::Result<Path<'_>> {
-        self.text.truncate(self.base);
+        self.begin()?;
         self.text.push_str("new")?;
         Ok(Path::new(self.text.as_str()))
     }
 
     // That of the piece of this number.
     fn numbered(&mut self, number: u64) -> io::Result<Path<'_>> {
-        self.text.truncate(self.base);
+        self.begin()?;
         match write!(self.text, "{number}") {
             Ok(()) => Ok(Path::new(self.text.as_str())),
             Err(_) => Err(io::Error::from(ErrorKind::OutOfMemory)),
         }
+    }
+
+    // The front of each.
+    fn begin(&mut self) -> Result<(), AllocError> {
+        self.text.clear();
+        self.text.push_str(self.name)?;
+        self.text.push('.')
     }
 }
