@@ -27,7 +27,7 @@ pub(crate) struct LastLines {
 /// are sent again, or else the lines of the piece before. The last lines are those with these behind them. The fault is
 /// `Trace`, if the piece before is missing, isn't legal under these rules, doesn't end where these lines begin, or isn't
 /// enough.
-pub(crate) fn with_before<B: Read>(
+pub(crate) fn with_before<B: Read + Drop>(
     alloc: Global,
     rules: Rules,
     before: Option<B>,

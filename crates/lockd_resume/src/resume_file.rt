@@ -94,18 +94,18 @@ pub fn resume_on<F: Write, N: Write + Copy + Drop, O: ResumeObserver>(
         return end_unopened(faults, observer, why);
     }
     let mut details = Details::new();
-    let beside = match beside(rt, alloc, &file, how, notices) {
-        Ok(beside) => beside,
+    let neighbors = match neighbors_of(rt, alloc, &file, how, notices) {
+        Ok(neighbors) => neighbors,
         Err(why) if why.kind() == ErrorKind::OutOfMemory => {
             return end_unresumed(alloc, faults, observer, CommandFault::NoMemory, &details);
         }
         Err(why) => return end_unopened(faults, observer, Untraced::Unlisted(why)),
     };
-    let Beside {
+    let Neighbors {
         last,
         before,
         pieces,
-    } = beside;
+    } = neighbors;
     let point = match resumed_from(alloc, rules, before, &mut file, &mut details) {
         Ok(point) => point,
         Err(CommandFault::Trace) => return end_unopened(faults, observer, Untraced::Headed(last)),
@@ -140,7 +140,7 @@ pub fn resume_on<F: Write, N: Write + Copy + Drop, O: ResumeObserver>(
 // What stands beside a trace's file: the greatest number of a piece before it, that piece, and where the next ones go,
 // if there are any.
 #[derive(Drop)]
-struct Beside<'a, N> {
+struct Neighbors<'a, N> {
     last: u64,
     before: Option<File>,
     pieces: Option<NextPieces<'a, N>>,
@@ -154,30 +154,40 @@ struct NextPieces<'a, N> {
 }
 
 // What stands beside this file. All memory that the next pieces need is there.
-fn beside<'a, N: Write + Copy + Drop>(
+fn neighbors_of<'a, N: Write + Copy + Drop>(
     rt: &'a HostRuntime,
     alloc: Global,
     file: &File,
     how: Resuming<'a>,
     notices: N,
-) -> io::Result<Beside<'a, N>> {
+) -> io::Result<Neighbors<'a, N>> {
     let last = last_piece(rt, how.name, file)?;
-    let before = open_piece(rt, how.name, last)?;
-    let pieces = match how.rotation {
-        None => None,
-        Some(rotation) => {
-            let here = file.try_clone()?;
-            Some(NextPieces {
-                files: FilePieces::new(rt, how.name, here, last, rotation, how.when, notices)?,
-                spare: StreamRoom::new(alloc)?,
-            })
-        }
-    };
-    Ok(Beside {
+    Ok(Neighbors {
         last,
-        before,
-        pieces,
+        before: open_piece(rt, how.name, last)?,
+        pieces: match how.rotation {
+            None => None,
+            Some(rotation) => Some(next_pieces(rt, alloc, file, how, last, rotation, notices)?),
+        },
     })
+}
+
+// Where the pieces go that come behind this file, if this is the greatest number of a piece before it.
+fn next_pieces<'a, N: Write + Copy + Drop>(
+    rt: &'a HostRuntime,
+    alloc: Global,
+    file: &File,
+    how: Resuming<'a>,
+    last: u64,
+    rotation: Rotation,
+    notices: N,
+) -> io::Result<NextPieces<'a, N>> {
+    let Ok(spare) = StreamRoom::new(alloc) else {
+        return Err(io::Error::from(ErrorKind::OutOfMemory));
+    };
+    let here = file.try_clone()?;
+    let files = FilePieces::new(rt, how.name, here, last, rotation, how.when, notices)?;
+    Ok(NextPieces { files, spare })
 }
 
 // Serves a session from this point, whose next pieces go there, or whose lines all go to this file.
@@ -280,7 +290,7 @@ fn end_at<F: Write>(faults: &mut F, status: Status, whole: bool, there: bool) ->
 /// newline. If they begin with a head, and aren't enough to know messages that are sent again, it reads the piece before
 /// as well; without one that fits, the fault is `Trace`. What is told of the file's lines goes to `details`. All memory
 /// that the session needs is made before the file is read.
-pub fn resumed_from<S: Read, B: Read>(
+pub fn resumed_from<S: Read, B: Read + Drop>(
     alloc: Global,
     rules: Rules,
     before: Option<B>,
