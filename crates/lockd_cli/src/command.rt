@@ -1,7 +1,7 @@
 //! The commands of `lockd` and their options: a table of each, and what `clap` makes of it.
 
 use crate::options::MOST_WORKERS;
-use crate::rotation::LEAST_KEPT;
+use crate::rotation_options::LEAST_KEPT;
 use crate::version::VERSION;
 use clap::builder::ValueParser;
 use clap::{Arg, ArgAction, Command, Error};

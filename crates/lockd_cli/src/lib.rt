@@ -25,6 +25,7 @@
 mod command;
 mod options;
 mod rotation;
+mod rotation_options;
 mod said_rules;
 mod usage_error;
 mod version;

@@ -11,7 +11,8 @@ ghost use Rattle.lockd_cli.specs.Inside.{SaysWhenStuck, Spells, pieces_said, soc
 ghost use Rattle.lockd_cli.specs.Numbers.{HasWorkers};
 
 use crate::command::lockd;
-use crate::rotation::{Rotation, refuse_pieces, rotation_of};
+use crate::rotation::Rotation;
+use crate::rotation_options::{refuse_pieces, rotation_of};
 use crate::said_rules::SaidRules;
 use crate::usage_error::UsageError;
 use clap::ArgMatches;
