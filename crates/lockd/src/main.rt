@@ -21,7 +21,7 @@ ghost use Rattle.lockd_cli.specs.Numbers.{HasWorkers};
 use lockd_cli::{Asked, CommandLine, UsageError, print_version, read_words};
 use lockd_commands::{CommandFault, Status};
 use lockd_stdio::{Host, bytes, check, check_pieces, drive, locks, script, state};
-use serving::{resume, serve};
+use serving::{resume, resuming, serve, when_unwritten};
 use std::fs::Files;
 use std::io::Write;
 use std::net::Net;
@@ -91,8 +91,13 @@ fn run<T: Threads + Wait + Net + Files + Sync>(
             socket,
             file,
             when_stuck,
+            rotation,
             rules,
-        } => resume(host, socket.as_str(), file.as_str(), *when_stuck, *rules),
+        } => {
+            let when = when_unwritten(*when_stuck);
+            let how = resuming(file.as_str(), when, rotation);
+            resume(host, socket.as_str(), how, *rules)
+        }
         Asked::Drive(socket) => drive(host, socket.as_str()),
         Asked::Version => version(&mut io::writer(rt), &mut rt.stderr()),
     }

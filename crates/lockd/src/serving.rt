@@ -8,9 +8,9 @@ ghost use Rattle.lockd_resume.specs.Ending.{Ends};
 use lockd_cli::{Trace, WhenFull, WhenStuck};
 use lockd_commands::{CommandFault, Noting, Rules, Status};
 use lockd_serve::{
-    Announcing, Observer, ServeOptions, TraceTo, Untraced, WhenUnwritten, WhenWriterFails,
-    end_traced_to, end_unopened, file_to_go_on_in, is_unused, new_file, remove_if_at, resume_on,
-    serve_on,
+    Announcing, Observer, Resuming, Rotation, ServeOptions, TraceTo, Untraced, WhenUnwritten,
+    WhenWriterFails, end_traced_to, end_unopened, file_to_go_on_in, is_unused, new_file,
+    remove_if_at, resume_on, serve_on,
 };
 use lockd_stdio::{Host, ServerWords, hold_closed_streams};
 use std::fs::{File, Files};
@@ -84,23 +84,17 @@ fn serve_opened<T: Threads + Wait + Net + Files + Sync>(
 }
 
 /// `lockd serve --resume`.
-pub(crate) fn resume(
-    host: Host<'_>,
-    socket: &str,
-    file: &str,
-    when: WhenStuck,
-    rules: Rules,
-) -> Status {
+pub(crate) fn resume(host: Host<'_>, socket: &str, how: Resuming<'_>, rules: Rules) -> Status {
     let rt = host.rt;
     hold_closed_streams(rt);
-    let mut words = server_words(host, socket, file, rules);
-    let trace = match file_to_go_on_in(rt, file) {
+    let mut words = server_words(host, socket, how.name, rules);
+    let trace = match file_to_go_on_in(rt, how.name) {
         Ok(trace) => trace,
         Err(why) => {
             return end_unopened(&mut rt.stderr(), &mut words, Untraced::Unopened(why));
         }
     };
-    resume_opened(rt, socket, rules, trace, file, when, &mut words)
+    resume_opened(rt, socket, rules, trace, how, &mut words)
 }
 
 // Goes on in a file that was opened.
@@ -109,21 +103,20 @@ fn resume_opened(
     socket: &str,
     rules: Rules,
     trace: File,
-    file: &str,
-    when: WhenStuck,
+    how: Resuming<'_>,
     words: &mut Words<'_>,
 ) -> Status {
     let mut faults = rt.stderr();
+    let notices = rt.stderr();
     resume_on(
         rt,
         rt.alloc(),
         Path::new(socket),
         rules,
         trace,
-        file,
-        when_unwritten(when),
+        how,
         &mut faults,
-        rt.stderr(),
+        &notices,
         words,
     )
 }
@@ -222,8 +215,29 @@ fn when_full(trace: &Trace) -> WhenWriterFails
     }
 }
 
-// What a server does that goes on behind a trace, while the trace's file can't be written.
-fn when_unwritten(said: WhenStuck) -> WhenUnwritten
+/// How a server goes on in a trace's file at this path.
+pub(crate) fn resuming<'a>(
+    name: &'a str,
+    when: WhenUnwritten,
+    said: &Option<lockd_cli::Rotation>,
+) -> Resuming<'a> {
+    Resuming {
+        name,
+        when,
+        rotation: said.map(rotation_of),
+    }
+}
+
+// When the next piece of a trace begins, as a command line says it.
+fn rotation_of(said: lockd_cli::Rotation) -> Rotation {
+    Rotation {
+        bytes: u64::from(said.bytes),
+        keep: said.keep.map(u64::from),
+    }
+}
+
+/// What a server does that goes on behind a trace, while the trace's file can't be written.
+pub(crate) fn when_unwritten(said: WhenStuck) -> WhenUnwritten
     ensures { result ≡ WhenUnwritten.End ↔ said ≡ WhenStuck.End }
 {
     match said {
