@@ -92,12 +92,13 @@ module _ (status result : Status) (told between now : Option (List ℕ))
       (bad (subst (λ s. s ≢ Good) (sym ends.0) (λ e. cc)) ∙ ends.0, kept_behind _ told between now ends.1 (keeps ends.0))
 
 -- a session went on behind some lines, and this is what is told of it at last
-pub serves : {T : Type 0} (single : Bool) (rules now : Rules) (base : List Line) (contents : T → Option (List ℕ)) (streams : Streams)
+pub serves : {T : Type 0} (single : Bool) (rules now : Rules) (heard base : List Line) (contents : T → Option (List ℕ)) (streams : Streams)
     (before it : Ending) (run : ResumedRun T) (whole : Bool) → now ≡ rules
-    → IsOverBehind single now base contents streams before run → EndsBehind run.fault whole it → ServesBehind rules it
-serves single rules now base contents streams before it run whole same over ends =
-    let there = subst (λ r. IsOverBehind single r base contents streams before run) same over in
+    → IsOverBehind single now heard base contents streams before run → EndsBehind run.fault whole it → ServesBehind rules it
+serves single rules now heard base contents streams before it run whole same over ends =
+    let there = subst (λ r. IsOverBehind single r heard base contents streams before run) same over in
     record {
+      heard = heard;
       base = base;
       streams = streams;
       broken = run.broken;

@@ -1,8 +1,8 @@
 -- What is read of a text that was cut off.
-use Rattle.std.proofs.Common.{◌≡◌, ◌⊎◌, inl, inr, ℕ, suc, Bool, true, false, ◌||◌, ◌==◌, ◌↔◌, cond, if◌then◌else◌}
+use Rattle.std.proofs.Common.{◌≡◌, ◌⊎◌, inl, inr, ℕ, suc, ◌+◌, ◌-◌, ◌^◌, ◌<◌, ◌≤◌, min, Bool, true, false, ◌||◌, ◌==◌, ◌↔◌, cond, if◌then◌else◌}
 use Rattle.std.proofs.Common.{List, [], ◌∷◌, ◌++◌}
 use Rattle.std.proofs.Common.{length, map, refl, ap, sym, ◌∙◌, subst, arith, append_assoc, append-nil, length-append}
-use Rattle.std.proofs.lemmas.Bool.{ne_eqb}
+use Rattle.std.proofs.lemmas.Bool.{cases_lt, ne_eqb}
 use Rattle.std.proofs.lemmas.List.{append_cancel_left}
 use Rattle.std.proofs.lemmas.List.Elements.{All-head, All-tail, All-cons, All-nil}
 use Rattle.std.proofs.lemmas.List.Folds.{list_any-append}
@@ -14,7 +14,8 @@ use Rattle.fl_history.specs.declared.history.Line.{Line}
 use Rattle.fl_audit.specs.Audit.{has_newline, whole_lines}
 use Rattle.fl_history.specs.declared.history.Line.TheVariants as line
 use Rattle.fl_audit.specs.First.{AreWholeLines}
-use Rattle.fl_history.specs.Place.{nowhere, with_place}
+use Rattle.fl_history.specs.Place.{nowhere, place_of, with_place}
+use Rattle.fl_history.specs.Recent.{spoken}
 use Rattle.fl_history.specs.declared.place.Place.{Place}
 use Rattle.fl_desk.specs.Legal.{HasNoHead, IsLegal, IsLegalFromNothing, is_state}
 use Rattle.fl_order.specs.declared.state_part.StateLine.{StateLine}
@@ -22,7 +23,8 @@ use Rattle.fl_order.specs.declared.state_part.StateLine.TheVariants as state
 use Rattle.fl_waiting.specs.declared.rules.Rules.{Rules}
 use Rattle.lockd_faults.specs.declared.fault.CommandFault.{CommandFault}
 use Rattle.lockd_faults.specs.declared.fault.CommandFault.TheVariants as command
-use Rattle.lockd_resume.specs.Behind.{DiffersIn, FileSays, IsHeaded}
+use Rattle.lockd_resume.specs.Behind.{DiffersIn, FileSays, LacksLines}
+use Rattle.lockd_resume.specs.Heard.{AreEnough}
 use Rattle.fl_trace.specs.Text.{BreaksAt, line_text, text_of, Fits, LineFits}
 
 -- what `fl_trace` says of the text of lines
@@ -37,12 +39,24 @@ state_not : (s : StateLine) (lines : List Line) → HasNoHead (line.State s ∷ 
 state_not s lines none =
     let all = sum_by-cons (λ x. cond (is_state x) 1 0) (line.State s) lines in omega (arith, all, none)
 
--- lines without a head aren't headed
-no_head_there : (p : Place) (lines : List Line) → HasNoHead lines → (fold with_place p lines).headed ≡ p.headed
-no_head_there p [] none = refl
-no_head_there p (line.Asked worker order ∷ lines) none = no_head_there (with_place p (line.Asked worker order)) lines none
-no_head_there p (line.Told told ∷ lines) none = no_head_there (with_place p (line.Told told)) lines none
-no_head_there p (line.State s ∷ lines) none = absurd (state_not s lines none)
+-- lines without a head end as many orders and replies further on
+ends_behind : (p : Place) (lines : List Line) → p.lines ≤ 2 ^ 64 - 1 → HasNoHead lines
+    → (fold with_place p lines).lines ≡ min (p.lines + length (spoken lines)) (2 ^ 64 - 1)
+ends_behind p [] few none = omega (arith, few)
+ends_behind p (line.Asked worker order ∷ lines) few none =
+    omega (arith, ends_behind (with_place p (line.Asked worker order)) lines (omega arith) none)
+ends_behind p (line.Told told ∷ lines) few none =
+    omega (arith, ends_behind (with_place p (line.Told told)) lines (omega arith) none)
+ends_behind p (line.State s ∷ lines) few none = absurd (state_not s lines none)
+
+enough_there : (lines : List Line) → HasNoHead lines → (length (spoken lines) < 65536) ⊎ (65536 ≤ length (spoken lines))
+    → AreEnough (place_of lines) lines
+enough_there lines none (inl few) = inr (omega (arith, few, ends_behind nowhere lines (omega arith) none))
+enough_there lines none (inr many) = inl many
+
+-- so they are enough
+enough_alone : (lines : List Line) → HasNoHead lines → AreEnough (place_of lines) lines
+enough_alone lines none = enough_there lines none (cases_lt (length (spoken lines)) 65536)
 
 -- ---- newlines
 
@@ -244,11 +258,10 @@ module _ (apart : AreApart) (lacks : LackNewlines) where
             (map (λ part. line.State (state.Part part)) inside.parts) (subst HasNoHead inside.begun none);
       })
 
-  never_headed : ((xs ys : List Line) → HasNoHead (xs ++ ys) ↔ (HasNoHead xs × HasNoHead ys)) → (text : List ℕ)
-      (all : List Line) → Fits all → HasNoHead all → IsPrefix text (text_of all) → IsHeaded text → ⊥
-  never_headed both text all fits none begins it =
-      let alone = no_head_there nowhere it.lines (headless both text all it.lines it.bytes fits none begins it.are) in
-      cc (alone, it.headed)
+  never_lacking : ((xs ys : List Line) → HasNoHead (xs ++ ys) ↔ (HasNoHead xs × HasNoHead ys)) → (text : List ℕ)
+      (all : List Line) → Fits all → HasNoHead all → IsPrefix text (text_of all) → LacksLines text → ⊥
+  never_lacking both text all fits none begins it =
+      it.lacks (enough_alone it.lines (headless both text all it.lines it.bytes fits none begins it.are))
 
   pub never_refused : ((lines : List Line) (n : ℕ) → Fits lines → BreaksAt LineFits (text_of lines) n → ⊥)
       → ((xs ys : List Line) → HasNoHead (xs ++ ys) ↔ (HasNoHead xs × HasNoHead ys)) → (rules : Rules) (text : List ℕ) (all : List Line) (fault : CommandFault) → Fits all → IsLegalFromNothing rules all
@@ -268,5 +281,5 @@ module _ (apart : AreApart) (lacks : LackNewlines) where
   never_refused never both rules text all command.Connect fits legal begins says = absurd says
   never_refused never both rules text all command.BadReply fits legal begins says = absurd says
   never_refused never both rules text all command.Trace fits legal begins says =
-      absurd (never_headed both text all fits legal.1 begins says)
+      absurd (never_lacking both text all fits legal.1 begins says)
   never_refused never both rules text all command.TraceFailed fits legal begins says = absurd says

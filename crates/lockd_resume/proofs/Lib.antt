@@ -1,3 +1,4 @@
+pub mod BeforeLemmas
 pub mod BehindLemmas
 pub mod CutTexts
 pub mod Histories

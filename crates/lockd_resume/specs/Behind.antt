@@ -1,5 +1,5 @@
 -- A server that goes on behind the lines of a trace's file.
-use Rattle.std.specs.Prelude.{◌≡◌, ℕ, Bool, true, false, List, [], Option, Some, ⊤}
+use Rattle.std.specs.Prelude.{ℕ, Bool, true, false, List, Option, Some, ⊤}
 use Rattle.fl_desk.specs.Legal.{IsLegal}
 use Rattle.fl_history.specs.Place.{place_of}
 use Rattle.fl_judge.specs.Present.{HasPresent}

@@ -11,7 +11,7 @@ ghost use Rattle.fl_trace.specs.Text.{text_of};
 
 use crate::point::ResumePoint;
 use fl_desk::Desk;
-use fl_history::{Journal, Line, Past, Place, Recent};
+use fl_history::{Journal, Recent};
 use fl_judge::Resumed;
 use fl_order::Told;
 use fl_session::{Fault, Recorded, resume_session};

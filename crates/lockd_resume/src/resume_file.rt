@@ -1,6 +1,6 @@
 //! `lockd serve --resume`: a session behind the lines of a trace's file.
 
-ghost use Rattle.std.specs.Prelude.{◌≡◌, ◌⊎◌, ◌&&◌, ◌++◌, ℕ, [], List, Option, Some, IfOk, IfErr};
+ghost use Rattle.std.specs.Prelude.{◌≡◌, ◌⊎◌, ◌&&◌, ◌++◌, ℕ, Bool, [], List, Option, Some, IfOk, IfErr};
 ghost use Rattle.std.specs.Path.{path_bytes};
 ghost use Rattle.fl_desk.specs.Kept.{IsKept};
 ghost use Rattle.fl_audit.specs.First.{AreWholeLines, IsSoOfAll};
@@ -10,8 +10,10 @@ ghost use Rattle.fl_transport.specs.declared.fault.Fault.{Fault as SessionFault}
 ghost use Rattle.lockd_resume.specs.Behind.{EndsBehind, FileSays, ServesBehind, ServesNobodyBehind};
 ghost use Rattle.lockd_resume.specs.Ending.{Ending, Ends};
 ghost use Rattle.lockd_resume.specs.Heard.{AreEnough, IsHeardBefore, left_of};
-ghost use Rattle.lockd_resume.specs.Inside.{DiffersBy, told_of_reading};
-ghost use Rattle.lockd_resume.specs.Resumed.{lines_at};
+ghost use Rattle.lockd_resume.specs.Inside.{ComesBefore, DiffersBy, told_of_reading};
+ghost use Rattle.fl_stream.specs.Streams.{IsAs};
+ghost use Rattle.fl_trace.specs.Text.{text_of};
+ghost use Rattle.lockd_resume.specs.Resumed.{IsOverBehind, lines_at};
 
 use crate::before::{LastLines, with_before};
 use crate::behind::ResumedRun;
@@ -26,11 +28,11 @@ use fl_judge::laws::a_legal_history_has_a_present;
 use fl_judge::{Judge, Resumed, Verdict};
 use fl_order::NoMemory;
 use fl_session::SessionRoom;
-use fl_stream::{OnePiece, StreamRoom};
+use fl_stream::{OnePiece, Pieces, StreamRoom};
 use lockd_faults::{CommandFault, Noting, Status, end};
 use lockd_streams::{
-    Announcing, FilePieces, OldSocket, Patient, PieceWriter, Retrying, Rotation, Spinning,
-    Untraced, WhenUnwritten, connection, end_without_file, is_at, last_piece, open_piece,
+    Announcing, FilePieces, OldSocket, Patient, Retrying, Rotation, Spinning, Untraced,
+    WhenUnwritten, connection, end_without_file, is_at, last_piece, open_piece,
 };
 use std::alloc::Global;
 use std::fs::{File, TryLockError};
@@ -90,34 +92,15 @@ pub fn resume_on<F: Write, N: Write + Copy + Drop, O: ResumeObserver>(
     }) }
 {
     let name = how.name;
-    if let Some(why) = untakable(rt, &file, name) {
-        return end_unopened(faults, observer, why);
-    }
     let mut details = Details::new();
-    let neighbors = match neighbors_of(rt, alloc, &file, how, notices) {
-        Ok(neighbors) => neighbors,
-        Err(why) if why.kind() == ErrorKind::OutOfMemory => {
-            return end_unresumed(alloc, faults, observer, CommandFault::NoMemory, &details);
+    let ready = match made_ready(rt, alloc, rules, &mut file, how, notices, &mut details) {
+        Ok(ready) => ready,
+        Err(Unready::Untraced(why)) => return end_unopened(faults, observer, why),
+        Err(Unready::Fault(fault)) => {
+            return end_unresumed(alloc, faults, observer, fault, &details);
         }
-        Err(why) => return end_unopened(faults, observer, Untraced::Unlisted(why)),
     };
-    let Neighbors {
-        last,
-        before,
-        pieces,
-    } = neighbors;
-    let point = match resumed_from(alloc, rules, before, &mut file, &mut details) {
-        Ok(point) => point,
-        Err(CommandFault::Trace) => return end_unopened(faults, observer, Untraced::Headed(last)),
-        Err(fault) => return end_unresumed(alloc, faults, observer, fault, &details),
-    };
-    let rest = details.bad.text();
-    if point.bytes == 0 && !may_begin_a_trace(rest) {
-        return end_unresumed(alloc, faults, observer, CommandFault::BadLine(1), &details);
-    }
-    if let Err(why) = cut_off(&file, point.bytes, rest) {
-        return end_unopened(faults, observer, Untraced::Uncut(why));
-    }
+    let Ready { point, pieces } = ready;
     observer.resumed();
     let stream = match connection(rt, alloc, path, OldSocket::Replace, observer) {
         Ok(stream) => stream,
@@ -137,74 +120,136 @@ pub fn resume_on<F: Write, N: Write + Copy + Drop, O: ResumeObserver>(
     status
 }
 
-// What stands beside a trace's file: the greatest number of a piece before it, that piece, and where the next ones go,
-// if there are any.
+// What a server goes on from, and where the next pieces go, if there are to be any.
 #[derive(Drop)]
-struct Neighbors<'a, N> {
-    last: u64,
-    before: Option<File>,
-    pieces: Option<NextPieces<'a, N>>,
+struct Ready<P> {
+    point: ResumePoint,
+    pieces: Option<NextPieces<P>>,
+}
+
+// Why a server doesn't go on in a trace's file.
+#[derive(Drop)]
+enum Unready {
+    Fault(CommandFault),
+    Untraced(Untraced),
 }
 
 // Where the next pieces of a trace go, and the room for the text of a head.
 #[derive(Drop)]
-struct NextPieces<'a, N> {
-    files: FilePieces<'a, N>,
+struct NextPieces<P> {
+    files: P,
     spare: StreamRoom,
 }
 
-// What stands beside this file. All memory that the next pieces need is there.
-fn neighbors_of<'a, N: Write + Copy + Drop>(
+// Locks the file, reads it, and cuts off what follows its last newline. All memory that a server needs is there then.
+fn made_ready<'a, N: Write + Copy + Drop>(
     rt: &'a HostRuntime,
     alloc: Global,
-    file: &File,
+    rules: Rules,
+    file: &mut File,
     how: Resuming<'a>,
     notices: N,
-) -> io::Result<Neighbors<'a, N>> {
-    let last = last_piece(rt, how.name, file)?;
-    Ok(Neighbors {
-        last,
-        before: open_piece(rt, how.name, last)?,
-        pieces: match how.rotation {
-            None => None,
-            Some(rotation) => Some(next_pieces(rt, alloc, file, how, last, rotation, notices)?),
-        },
-    })
+    details: &mut Details,
+) -> Result<Ready<FilePieces<'a, N>>, Unready>
+    ensures recent { IfOk result (λ ready. ready.point.recent ≡ ready.point.heard.items ++ ready.point.resumed.past.items) }
+    ensures place { IfOk result (λ ready. ready.point.place ≡ place_of ready.point.resumed.past.items) }
+    ensures kept { IfOk result (λ ready. IsKept (lines_at ready.point) ready.point.resumed.present) }
+    ensures present { IfOk result (λ ready. ready.point.resumed.present.rules ≡ ready.point.session.rules) }
+    ensures rules { IfOk result (λ ready. ready.point.session.rules ≡ rules) }
+    ensures before { IfErr result ComesBefore }
+{
+    if let Some(why) = untakable(rt, file, how.name) {
+        return Err(Unready::Untraced(why));
+    }
+    let (last, before) = piece_before(rt, file, how.name)?;
+    let pieces = next_pieces(rt, alloc, file, how, last, notices)?;
+    let point = match resumed_from(alloc, rules, before, file, details) {
+        Ok(point) => point,
+        Err(CommandFault::Trace) => return Err(Unready::Untraced(Untraced::Headed(last))),
+        Err(fault) => return Err(Unready::Fault(fault)),
+    };
+    let rest = details.bad.text();
+    if point.bytes == 0 && !may_begin_a_trace(rest) {
+        return Err(Unready::Fault(CommandFault::BadLine(1)));
+    }
+    match cut_off(file, point.bytes, rest) {
+        Ok(()) => Ok(Ready { point, pieces }),
+        Err(why) => Err(Unready::Untraced(Untraced::Uncut(why))),
+    }
 }
 
-// Where the pieces go that come behind this file, if this is the greatest number of a piece before it.
+// The greatest number of a piece before this file, and that piece.
+fn piece_before(rt: &HostRuntime, file: &File, name: &str) -> Result<(u64, Option<File>), Unready>
+    ensures before { IfErr result ComesBefore }
+{
+    match last_piece(rt, name, file) {
+        Ok(last) => match open_piece(rt, name, last) {
+            Ok(before) => Ok((last, before)),
+            Err(_) => Err(Unready::Fault(CommandFault::NoMemory)),
+        },
+        Err(why) => Err(unlisted(why)),
+    }
+}
+
+// Why there is nothing to go on from if the folder, or the file, can't be read for this reason.
+fn unlisted(why: io::Error) -> Unready
+    ensures { ComesBefore result }
+{
+    match why.kind() {
+        ErrorKind::OutOfMemory => Unready::Fault(CommandFault::NoMemory),
+        _ => Unready::Untraced(Untraced::Unlisted(why)),
+    }
+}
+
+// Where the pieces go that come behind this file, if any do, and this is the greatest number of a piece before it.
 fn next_pieces<'a, N: Write + Copy + Drop>(
     rt: &'a HostRuntime,
     alloc: Global,
     file: &File,
     how: Resuming<'a>,
     last: u64,
-    rotation: Rotation,
     notices: N,
-) -> io::Result<NextPieces<'a, N>> {
-    let Ok(spare) = StreamRoom::new(alloc) else {
-        return Err(io::Error::from(ErrorKind::OutOfMemory));
+) -> Result<Option<NextPieces<FilePieces<'a, N>>>, Unready>
+    ensures before { IfErr result ComesBefore }
+{
+    let Some(rotation) = how.rotation else {
+        return Ok(None);
     };
-    let here = file.try_clone()?;
-    let files = FilePieces::new(rt, how.name, here, last, rotation, how.when, notices)?;
-    Ok(NextPieces { files, spare })
+    let Ok(spare) = StreamRoom::new(alloc) else {
+        return Err(Unready::Fault(CommandFault::NoMemory));
+    };
+    match FilePieces::new(rt, how.name, file, last, rotation, how.when, notices) {
+        Ok(files) => Ok(Some(NextPieces { files, spare })),
+        Err(why) => Err(unlisted(why)),
+    }
 }
 
 // Serves a session from this point, whose next pieces go there, or whose lines all go to this file.
-fn resume_in<'a, I: Read, C: Write, N: Write + Copy + Drop, H: HangUp, F: Write>(
+fn resume_in<I: Read, C: Write, T: Write + Drop, P: Pieces<T> + Drop, H: HangUp, F: Write>(
     r: &mut I,
     w: &mut C,
     point: ResumePoint,
-    file: PieceWriter<'a, N>,
-    pieces: Option<NextPieces<'a, N>>,
+    file: T,
+    pieces: Option<NextPieces<P>>,
     connection: Option<&H>,
     faults: &mut F,
-) -> (Status, ResumedRun<PieceWriter<'a, N>>)
-    requires there { IsAs (File.contents file) (text_of point.resumed.past.items) }
+) -> (Status, ResumedRun<T>)
+    requires there { IsAs (T.contents file) (text_of point.resumed.past.items) }
     requires recent { point.recent ≡ point.heard.items ++ point.resumed.past.items }
     requires place { point.place ≡ place_of point.resumed.past.items }
     requires kept { IsKept (lines_at point) point.resumed.present }
     requires rules { point.resumed.present.rules ≡ point.session.rules }
+    ensures over { (single : Bool) × IsOverBehind single point.session.rules point.heard.items (lines_at point)
+        T.contents (record {
+          left = I.remaining r.old;
+          left_now = I.remaining r.new;
+          held = C.contents w.old;
+          held_now = C.contents w.new;
+        }) (record {
+          status = result.0;
+          told = F.contents faults.old;
+          told_now = F.contents faults.new;
+        }) result.1 }
 {
     match pieces {
         None => resume_stream(r, w, point, file, OnePiece, None, connection, faults),

@@ -58,17 +58,17 @@ impl<'a, N: Write + Copy> FilePieces<'a, N> {
     pub fn new(
         rt: &'a HostRuntime,
         name: &'a str,
-        here: File,
+        here: &File,
         last: u64,
         rotation: Rotation,
         when: WhenUnwritten,
         notices: N,
-    ) -> Result<FilePieces<'a, N>, AllocError> {
+    ) -> io::Result<FilePieces<'a, N>> {
         Ok(FilePieces {
             rt,
             name,
             names: PieceNames::of(rt.alloc(), name)?,
-            here,
+            here: here.try_clone()?,
             next: None,
             rotation,
             when,

@@ -1,4 +1,4 @@
-use Rattle.std.proofs.Common.{◌≡◌, List, [], ◌++◌, ◌∙◌, ap, refl, sym, subst}
+use Rattle.std.proofs.Common.{◌≡◌, List, ◌++◌, ◌∙◌, ap, refl, sym, subst}
 use Rattle.fl_desk.specs.Legal.{IsLegal}
 use Rattle.fl_desk.specs.Pieces.{IsPiece}
 use Rattle.fl_history.specs.declared.history.Line.{Line}
@@ -30,8 +30,8 @@ returns-clause-resumed g c =
       held = g.W.Write.contents c.args.w.now;
       held_now = g.W.Write.contents ended.new.w;
     } in
-    let served = served_as (λ (j : Pieced). j.lines) stored_of rules c.new-heard.result.items [] c.resume-desk.result.lines
-    base streams ended.result.1 ended.result.0 journal journal.lines c.in-Some.is c.new-heard.ensures same refl ended.ensures.served in
+    let served = served_as (λ (j : Pieced). j.lines) stored_of rules point.heard.items point.heard.items c.resume-desk.result.lines
+    base streams ended.result.1 ended.result.0 journal journal.lines c.in-Some.is refl same refl ended.ensures.served in
     record {
       lines = journal.lines;
       stored = stored_of journal;
