@@ -104,8 +104,12 @@ kept_more lines line e old now is pushed some =
 pub many_kept : (lines : List Line) (kept : List Entry) → kept ≡ entries_of (recent lines)
     → length kept ≡ min 65536 (length (spoken lines))
 many_kept lines kept is =
-    omega (arith, ap length (is ∙ last_entries lines), length-drop (length (entries_of lines) - 65536) (entries_of lines),
-        as_many lines)
+    omega (
+      arith,
+      ap length (is ∙ last_entries lines),
+      length-drop (length (entries_of lines) - 65536) (entries_of lines),
+      as_many lines,
+    )
 
 -- what is kept of lines, with others behind them
 pub kept_joined : (lines more : List Line) (old later now : List Entry) → old ≡ entries_of (recent lines)

@@ -10,10 +10,9 @@ push_all-requires-clause-few c = few_kept c.self.inside.past.items c.self.inside
 pub invariant_of-self : goal.invariant_of-self
 invariant_of-self c =
     let own = c.self.inside in
-    let later = c.later.inside in
-    (
+    let later = c.later.inside in (
       kept_joined own.past.items later.past.items own.entries.items later.entries.items _ c.self.invariant.0
           c.later.invariant.0 c.push_all.ensures.items
-      ∙ ap (λ lines. entries_of (recent lines)) (sym c.followed_by-self-inside.ensures),
+          ∙ ap (λ lines. entries_of (recent lines)) (sym c.followed_by-self-inside.ensures),
       c.push_all.ensures.room,
     )
