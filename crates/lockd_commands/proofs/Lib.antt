@@ -1,7 +1,6 @@
 pub mod CheckLemmas
 pub mod HexLemmas
 pub mod LocksLemmas
-pub mod OpeningLemmas
 pub mod ReplyLemmas
 pub mod RowLemmas
 pub mod ScriptLemmas

@@ -3,7 +3,6 @@ pub mod Check
 pub mod Faults
 pub mod Hex
 pub mod Locks
-pub mod Opening
 pub mod Row
 pub mod Script
 pub mod State

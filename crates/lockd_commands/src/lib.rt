@@ -1,6 +1,5 @@
 //! The commands of `lockd` but `serve` and `drive`, as functions: `script`, `check`, `locks`, `state` and `bytes` over a
-//! reader and two writers; the rules that a trace names (`read_opening`); and what `--verbose` says of what they and
-//! `drive` read.
+//! reader and two writers; and what `--verbose` says of what they and `drive` read.
 //!
 //! Contracts see no failure of a reader or a writer. They let through:
 //! - a command that prints its fault in part, or not at all;
@@ -21,7 +20,6 @@
 mod bytes;
 mod check;
 mod locks;
-mod opening;
 mod row;
 mod script;
 mod state;
@@ -29,12 +27,11 @@ mod verbose;
 
 pub use bytes::bytes_on;
 pub use check::{CheckOptions, check_on};
-pub use fl_audit::Details;
+pub use fl_audit::{Details, Opening, read_opening};
 pub use fl_core::Rules;
 pub use fl_trace::LINE_ROOM;
 pub use lockd_faults::{CommandFault, Noting, Status, end};
 pub use locks::{LocksOptions, locks_on};
-pub use opening::{Opening, read_opening};
 pub use row::check_row_on;
 pub use script::script_on;
 pub use state::state_on;

@@ -46,7 +46,7 @@ pub fn check(host: Host<'_>, said: SaidRules, tells_quiet: bool, cut: bool) -> S
     let mut room = [0; LINE_ROOM];
     let opening = match read_opening(&mut input, &mut room) {
         Ok(opening) => opening,
-        Err(fault) => return end_unread(host, &mut faults, fault, input.failed()),
+        Err(_) => return end_unread(host, &mut faults, input.failed()),
     };
     let rules = rules_of(said, opening);
     let mut trace = room[..opening.bytes].chain(&mut input);
@@ -90,7 +90,7 @@ pub fn locks(
     let mut room = [0; LINE_ROOM];
     let opening = match read_opening(&mut input, &mut room) {
         Ok(opening) => opening,
-        Err(fault) => return end_unread(host, &mut faults, fault, input.failed()),
+        Err(_) => return end_unread(host, &mut faults, input.failed()),
     };
     let rules = rules_of(said, opening);
     let mut trace = room[..opening.bytes].chain(&mut input);
@@ -118,7 +118,7 @@ pub fn state(host: Host<'_>, said: SaidRules) -> Status {
     let mut room = [0; LINE_ROOM];
     let opening = match read_opening(&mut input, &mut room) {
         Ok(opening) => opening,
-        Err(fault) => return end_unread(host, &mut faults, fault, input.failed()),
+        Err(_) => return end_unread(host, &mut faults, input.failed()),
     };
     let rules = rules_of(said, opening);
     let mut trace = room[..opening.bytes].chain(&mut input);
@@ -222,13 +222,8 @@ fn rules_of(said: SaidRules, opening: Opening) -> Rules {
 }
 
 // Ends a command whose input couldn't be read.
-fn end_unread<W: Write>(
-    host: Host<'_>,
-    faults: &mut W,
-    fault: CommandFault,
-    unread: Option<ErrorKind>,
-) -> Status {
-    let status = end(faults, Err(fault));
+fn end_unread<W: Write>(host: Host<'_>, faults: &mut W, unread: Option<ErrorKind>) -> Status {
+    let status = end(faults, Err(CommandFault::Read));
     explain_failed(host, faults, status, unread, None);
     status
 }

@@ -6,15 +6,15 @@ ghost use Rattle.std.specs.Io.KnownBytes.{Consumes, IsAtEnd};
 ghost use Rattle.fl_desk.specs.Heads.{NamesRules};
 ghost use Rattle.fl_audit.specs.Audit.{has_newline};
 ghost use Rattle.fl_waiting.specs.declared.rules.Rules.{Rules as Limits};
-ghost use Rattle.lockd_commands.specs.Opening.{AreNamed};
-ghost use Rattle.lockd_commands.specs.Opening.Inside.{IsEnough, IsHeadUnder};
+ghost use Rattle.fl_audit.specs.Opening.{AreNamed};
+ghost use Rattle.fl_audit.specs.Opening.Inside.{IsEnough, IsHeadUnder};
 
+use crate::finding::AuditFault;
 use fl_core::Rules;
 use fl_history::Line;
 use fl_order::{Head, StateLine};
 use fl_trace::laws::a_line_is_short;
 use fl_trace::{LINE_ROOM, first_line};
-use lockd_faults::CommandFault;
 use std::io::{ErrorKind, Read};
 
 // How many reads may come. None gives less than a byte, but one that was interrupted.
@@ -34,12 +34,12 @@ pub struct Opening {
 pub fn read_opening<R: Read>(
     input: &mut R,
     room: &mut [u8; LINE_ROOM],
-) -> Result<Opening, CommandFault>
+) -> Result<Opening, AuditFault>
     ensures within { IfOk result (λ it. it.bytes ≤ 700) }
     ensures read { IfOk result (λ it.
         Consumes (R.remaining input.old) (R.remaining input.new) (take it.bytes room.new)) }
     ensures named { IfOk result (λ it. IfSome (R.remaining input.old) (λ text. AreNamed text it.rules)) }
-    ensures error { IfErr result (λ fault. fault ≡ CommandFault.Read) }
+    ensures error { IfErr result (λ fault. fault ≡ AuditFault.Read) }
 {
     a_line_is_short();
     let bytes = read_front(input, room)?;
@@ -50,13 +50,13 @@ pub fn read_opening<R: Read>(
 }
 
 // Reads until there is a newline, or the room is full, or nothing is left. How many bytes were read.
-fn read_front<R: Read>(input: &mut R, room: &mut [u8]) -> Result<usize, CommandFault>
+fn read_front<R: Read>(input: &mut R, room: &mut [u8]) -> Result<usize, AuditFault>
     requires { length room.old ≡ 700 }
     ensures within { IfOk result (λ bytes. bytes ≤ length room.new) }
     ensures read { IfOk result (λ bytes.
         Consumes (R.remaining input.old) (R.remaining input.new) (take bytes room.new)) }
     ensures enough { IfOk result (λ bytes. IsEnough (take bytes room.new) (R.remaining input.new)) }
-    ensures error { IfErr result (λ fault. fault ≡ CommandFault.Read) }
+    ensures error { IfErr result (λ fault. fault ≡ AuditFault.Read) }
 {
     let mut bytes = 0;
     for _ in 0..MOST_READS {
@@ -69,7 +69,7 @@ fn read_front<R: Read>(input: &mut R, room: &mut [u8]) -> Result<usize, CommandF
             None => return Ok(bytes),
         }
     }
-    Err(CommandFault::Read)
+    Err(AuditFault::Read)
 }
 
 // Whether a first line stands in these bytes, or none can end behind them.
@@ -86,20 +86,20 @@ fn read_behind<R: Read>(
     input: &mut R,
     room: &mut [u8],
     bytes: usize,
-) -> Result<Option<usize>, CommandFault>
+) -> Result<Option<usize>, AuditFault>
     requires { bytes < length room.old }
     ensures front { take bytes room.new ≡ take bytes room.old }
     ensures long { length room.new ≡ length room.old }
     ensures read { IfOk result (λ came. let n = unwrap_or came 0 in (bytes + n ≤ length room.new)
         × Consumes (R.remaining input.old) (R.remaining input.new) (take n (drop bytes room.new))) }
     ensures end { IfOk result (λ came. IsNone came → IsAtEnd (R.remaining input.new)) }
-    ensures error { IfErr result (λ fault. fault ≡ CommandFault.Read) }
+    ensures error { IfErr result (λ fault. fault ≡ AuditFault.Read) }
 {
     match input.read(&mut room[bytes..]) {
         Ok(0) => Ok(None),
         Ok(came) => Ok(Some(came)),
         Err(error) if error.kind() == ErrorKind::Interrupted => Ok(Some(0)),
-        Err(_) => Err(CommandFault::Read),
+        Err(_) => Err(AuditFault::Read),
     }
 }
 

@@ -1,5 +1,5 @@
-use Rattle.lockd_commands.proofs.OpeningLemmas.{named_so}
-use Rattle.lockd_commands.proofs.opening.read_opening.Goals as goal
+use Rattle.fl_audit.proofs.OpeningLemmas.{named_so}
+use Rattle.fl_audit.proofs.opening.read_opening.Goals as goal
 
 pub returns-clause-named : goal.returns-clause-named
 returns-clause-named g c =

@@ -14,8 +14,8 @@ use Rattle.fl_audit.specs.Audit.{has_newline}
 use Rattle.fl_order.specs.declared.state_part.StateLine.TheVariants as state
 use Rattle.fl_trace.specs.Text.{line_text, LineFits}
 use Rattle.fl_waiting.specs.declared.rules.Rules.{Rules}
-use Rattle.lockd_commands.specs.Opening.{AreNamed, BeginsUnder}
-use Rattle.lockd_commands.specs.Opening.Inside.{IsEnough, IsHeadUnder}
+use Rattle.fl_audit.specs.Opening.{AreNamed, BeginsUnder}
+use Rattle.fl_audit.specs.Opening.Inside.{IsEnough, IsHeadUnder}
 
 -- so many bytes were read, and stand at the front of a room for any first line
 pub record IsFilled (start left : Option (List ℕ)) (bytes : ℕ) (room : List ℕ) : Type 0 where

@@ -1,6 +1,6 @@
 use Rattle.std.proofs.Common.{rules}
-use Rattle.lockd_commands.proofs.OpeningLemmas.{room_more}
-use Rattle.lockd_commands.proofs.opening.read_front.Goals as goal
+use Rattle.fl_audit.proofs.OpeningLemmas.{room_more}
+use Rattle.fl_audit.proofs.opening.read_front.Goals as goal
 
 pub loop-preserved : goal.loop-preserved
 loop-preserved g c =

@@ -1,7 +1,7 @@
 use Rattle.fl_history.specs.declared.history.Line.TheVariants as line
 use Rattle.fl_order.specs.declared.state_part.StateLine.TheVariants as state
-use Rattle.lockd_commands.proofs.OpeningLemmas.{by_line}
-use Rattle.lockd_commands.proofs.opening.named_rules.Goals as goal
+use Rattle.fl_audit.proofs.OpeningLemmas.{by_line}
+use Rattle.fl_audit.proofs.opening.named_rules.Goals as goal
 
 pub returns-in-Some : goal.returns-in-Some
 returns-in-Some c =
