@@ -25,18 +25,18 @@ pub(crate) struct LastLines {
 
 /// What stands before the lines of a piece, which end at this place: nothing, if these are enough to know messages that
 /// are sent again, or else the lines of the piece before. The last lines are those with these behind them. The fault is
-/// `Trace`, if the piece before is missing, isn't legal under these rules, doesn't end where these lines begin, or isn't
+/// `Trace`, if the piece before is missing, isn't legal under its rules, doesn't end where these lines begin, or isn't
 /// enough.
 pub(crate) fn with_before<B: Read + Drop>(
     alloc: Global,
-    rules: Rules,
+    under: Rules,
     before: Option<B>,
     here: Recent,
     place: Place,
 ) -> Result<LastLines, CommandFault>
     requires place { place ≡ place_of here }
     ensures recent { IfOk result (λ all. all.recent ≡ all.past.items ++ here) }
-    ensures heard { IfOk result (λ all. IsHeardBefore rules (left_of B.remaining before) here all.past.items) }
+    ensures heard { IfOk result (λ all. IsHeardBefore under (left_of B.remaining before) here all.past.items) }
     ensures enough { IfOk result (λ all. AreEnough place all.recent) }
     ensures fault { IfErr result (λ fault. (fault ≡ CommandFault.NoMemory)
         ⊎ ((fault ≡ CommandFault.Trace) × ¬ AreEnough place here)) }
@@ -50,7 +50,7 @@ pub(crate) fn with_before<B: Read + Drop>(
     let Some(mut before) = before else {
         return Err(CommandFault::Trace);
     };
-    match lines_before(alloc, rules, &mut before, &here, place) {
+    match lines_before(alloc, under, &mut before, &here, place) {
         Ok(Some(last)) => {
             let LastLines { past, mut recent } = last;
             recent.extend(&here);
@@ -80,7 +80,7 @@ const MOST_KEPT: usize = 65_536;
 // elsewhere than these begin.
 fn lines_before<B: Read>(
     alloc: Global,
-    rules: Rules,
+    under: Rules,
     before: &mut B,
     here: &Recent,
     place: Place,
@@ -89,10 +89,10 @@ fn lines_before<B: Read>(
     requires place { place ≡ place_of here.now }
     ensures recent { IfOk result (λ it. IfSome it (λ last. last.recent ≡ last.past.items)) }
     ensures heard { IfOk result (λ it. IfSome it (λ last.
-        IsHeardBefore rules (B.remaining before.old) here.now last.past.items)) }
+        IsHeardBefore under (B.remaining before.old) here.now last.past.items)) }
 {
     let mut details = Details::new();
-    let heard = match hear_cut(alloc, rules, before, &mut details) {
+    let heard = match hear_cut(alloc, under, before, &mut details) {
         Ok(heard) => heard,
         Err(AuditFault::NoMemory) => return Err(NoMemory),
         Err(AuditFault::BadLine(_) | AuditFault::Read) => return Ok(None),

@@ -20,6 +20,7 @@ use crate::behind::ResumedRun;
 use crate::ending::{end_unheard, end_unopened};
 use crate::hang_up::HangUp;
 use crate::observer::ResumeObserver;
+use crate::other_rules::{file_under, head_rules};
 use crate::point::ResumePoint;
 use crate::resuming::resume_stream;
 use fl_audit::{AuditFault, Details, Heard, hear_cut};
@@ -58,7 +59,8 @@ pub struct Resuming<'a> {
 /// as `lockd serve` does, but a socket's file at the path is replaced if nobody listens at it. Nothing was read of the
 /// file, which gets what is written behind what it has. If another server has it, it isn't there any more, is no regular
 /// file, or can't be locked or cut off, the fault is `Trace`. So it is if it begins with a head, has fewer than 65,536
-/// orders and replies, and the piece before it (`last_piece`) is missing, isn't legal, or ends elsewhere.
+/// orders and replies, and the piece before it (`last_piece`) is missing, isn't legal, or ends elsewhere. If its head
+/// names other rules, the next piece begins at once by these, unless what is there doesn't fit them (`file_under`).
 ///
 /// What follows the file's last newline is cut off, and the replies that its last order lacks are written to it. Then
 /// the lines of each order are written before any of its replies leaves. While a write fails, `when` says what happens,
@@ -73,7 +75,7 @@ pub fn resume_on<F: Write, N: Write + Copy + Drop, O: ResumeObserver>(
     alloc: Global,
     path: Path<'_>,
     rules: Rules,
-    mut file: File,
+    file: File,
     how: Resuming<'_>,
     faults: &mut F,
     notices: N,
@@ -93,6 +95,13 @@ pub fn resume_on<F: Write, N: Write + Copy + Drop, O: ResumeObserver>(
 {
     let name = how.name;
     let mut details = Details::new();
+    let mut file = match file_under(rt, alloc, rules, file, how, notices, &mut details) {
+        Ok(file) => file,
+        Err(Unready::Untraced(why)) => return end_unopened(faults, observer, why),
+        Err(Unready::Fault(fault)) => {
+            return end_unresumed(alloc, faults, observer, fault, &details);
+        }
+    };
     let ready = match made_ready(rt, alloc, rules, &mut file, how, notices, &mut details) {
         Ok(ready) => ready,
         Err(Unready::Untraced(why)) => return end_unopened(faults, observer, why),
@@ -122,27 +131,27 @@ pub fn resume_on<F: Write, N: Write + Copy + Drop, O: ResumeObserver>(
 
 // What a server goes on from, and where the next pieces go, if there are to be any.
 #[derive(Drop)]
-struct Ready<P> {
-    point: ResumePoint,
-    pieces: Option<NextPieces<P>>,
+pub(crate) struct Ready<P> {
+    pub point: ResumePoint,
+    pub pieces: Option<NextPieces<P>>,
 }
 
 // Why a server doesn't go on in a trace's file.
 #[derive(Drop)]
-enum Unready {
+pub(crate) enum Unready {
     Fault(CommandFault),
     Untraced(Untraced),
 }
 
 // Where the next pieces of a trace go, and the room for the text of a head.
 #[derive(Drop)]
-struct NextPieces<P> {
-    files: P,
-    spare: StreamRoom,
+pub(crate) struct NextPieces<P> {
+    pub files: P,
+    pub spare: StreamRoom,
 }
 
 // Locks the file, reads it, and cuts off what follows its last newline. All memory that a server needs is there then.
-fn made_ready<'a, N: Write + Copy + Drop>(
+pub(crate) fn made_ready<'a, N: Write + Copy + Drop>(
     rt: &'a HostRuntime,
     alloc: Global,
     rules: Rules,
@@ -161,9 +170,9 @@ fn made_ready<'a, N: Write + Copy + Drop>(
     if let Some(why) = untakable(rt, file, how.name) {
         return Err(Unready::Untraced(why));
     }
-    let (last, before) = piece_before(rt, file, how.name)?;
+    let Before { last, piece, under } = piece_before(rt, file, how.name, rules)?;
     let pieces = next_pieces(rt, alloc, file, how, last, notices)?;
-    let point = match resumed_from(alloc, rules, before, file, details) {
+    let point = match resumed_from(alloc, rules, under, piece, file, details) {
         Ok(point) => point,
         Err(CommandFault::Trace) => return Err(Unready::Untraced(Untraced::Headed(last))),
         Err(fault) => return Err(Unready::Fault(fault)),
@@ -178,17 +187,35 @@ fn made_ready<'a, N: Write + Copy + Drop>(
     }
 }
 
-// The greatest number of a piece before this file, and that piece.
-fn piece_before(rt: &HostRuntime, file: &File, name: &str) -> Result<(u64, Option<File>), Unready>
+// The greatest number of a piece before a file, that piece, and the rules that its head names.
+#[derive(Drop)]
+struct Before {
+    last: u64,
+    piece: Option<File>,
+    under: Rules,
+}
+
+// What stands before this file, whose rules are these: those of a piece that names none, too.
+fn piece_before(rt: &HostRuntime, file: &File, name: &str, rules: Rules) -> Result<Before, Unready>
     ensures before { IfErr result ComesBefore }
 {
-    match last_piece(rt, name, file) {
-        Ok(last) => match open_piece(rt, name, last) {
-            Ok(before) => Ok((last, before)),
-            Err(_) => Err(Unready::Fault(CommandFault::NoMemory)),
-        },
-        Err(why) => Err(unlisted(why)),
-    }
+    let last = match last_piece(rt, name, file) {
+        Ok(last) => last,
+        Err(why) => return Err(unlisted(why)),
+    };
+    let mut piece = match open_piece(rt, name, last) {
+        Ok(piece) => piece,
+        Err(_) => return Err(Unready::Fault(CommandFault::NoMemory)),
+    };
+    let named = match &mut piece {
+        Some(piece) => head_rules(piece),
+        None => None,
+    };
+    Ok(Before {
+        last,
+        piece,
+        under: named.unwrap_or(rules),
+    })
 }
 
 // Why there is nothing to go on from if the folder, or the file, can't be read for this reason.
@@ -333,11 +360,12 @@ fn end_at<F: Write>(faults: &mut F, status: Status, whole: bool, there: bool) ->
 
 /// What a server goes on from behind the lines of a trace's file, under these rules: all its lines, up to the last
 /// newline. If they begin with a head, and aren't enough to know messages that are sent again, it reads the piece before
-/// as well; without one that fits, the fault is `Trace`. What is told of the file's lines goes to `details`. All memory
+/// as well, which is legal under its own rules; without one that fits, the fault is `Trace`. What is told of the file's lines goes to `details`. All memory
 /// that the session needs is made before the file is read.
 pub fn resumed_from<S: Read, B: Read + Drop>(
     alloc: Global,
     rules: Rules,
+    under: Rules,
     before: Option<B>,
     file: &mut S,
     details: &mut Details,
@@ -346,7 +374,7 @@ pub fn resumed_from<S: Read, B: Read + Drop>(
         (λ text. AreWholeLines text point.resumed.past.items point.bytes)) }
     ensures recent { IfOk result (λ point. point.recent ≡ point.heard.items ++ point.resumed.past.items) }
     ensures heard { IfOk result (λ point.
-        IsHeardBefore rules (left_of B.remaining before) point.resumed.past.items point.heard.items) }
+        IsHeardBefore under (left_of B.remaining before) point.resumed.past.items point.heard.items) }
     ensures enough { IfOk result (λ point. AreEnough point.place point.recent) }
     ensures place { IfOk result (λ point. point.place ≡ place_of point.resumed.past.items) }
     ensures kept { IfOk result (λ point. IsKept (lines_at point) point.resumed.present) }
@@ -372,7 +400,7 @@ pub fn resumed_from<S: Read, B: Read + Drop>(
         Ok(resumed) => resumed,
         Err(fault) => return Err(fault),
     };
-    let last = match with_before(alloc, rules, before, recent, place) {
+    let last = match with_before(alloc, under, before, recent, place) {
         Ok(last) => last,
         Err(fault) => return Err(fault),
     };

@@ -2,7 +2,7 @@
 
 use lockd_commands::{Details, Rules, Status, explain_streams, explain_trace};
 use lockd_resume::ResumeObserver;
-use lockd_streams::{Observer, Parting, Untraced};
+use lockd_streams::{Misfit, Observer, Parting, Untraced};
 use std::alloc::Global;
 use std::fmt::Display;
 use std::fs::Files;
@@ -139,6 +139,13 @@ impl<R: Files, W: Write> Observer for ServerWords<'_, R, W> {
             Untraced::Headed(number) => self.say(format_args!(
                 "{file} doesn't go on from where {file}.{number} ends, or that isn't legal by these rules: put the piece before {file} back there"
             )),
+            Untraced::Misfit(what) => {
+                let more = more_than_allowed(what);
+                self.say(format_args!("{file}: {more}"));
+            }
+            Untraced::Unturned => self.say(format_args!(
+                "{file}: its head names other RULES, and no new piece could be begun by these"
+            )),
             Untraced::Unlisted(why) => self.say(format_args!(
                 "{file}: its folder can't be listed, to find the pieces before it: {why}"
             )),
@@ -174,6 +181,16 @@ impl<R: Files, W: Write> ResumeObserver for ServerWords<'_, R, W> {
 }
 
 const NO_PATH: &str = "the path of the socket is empty: name a file";
+
+// What is said if there is more of this than the rules allow.
+fn more_than_allowed(what: Misfit) -> &'static str {
+    match what {
+        Misfit::Files => "more files are there than --files allows",
+        Misfit::OpenFiles => "more files are open than --open allows",
+        Misfit::Runs => "more locked runs are there than --runs allows",
+        Misfit::Parked => "more requests wait than --parked allows, or one waits only by --fair",
+    }
+}
 
 // A socket's path has so many bytes at most.
 const MOST_BYTES: usize = 107;

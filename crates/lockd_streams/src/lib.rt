@@ -39,7 +39,7 @@ mod socket;
 mod spinning;
 mod trace_file;
 
-pub use observer::{Observer, Parting, Untraced};
+pub use observer::{Misfit, Observer, Parting, Untraced};
 pub use pieces::{FilePieces, PieceWriter, Rotation, last_piece, open_piece};
 pub use retrying::{Announcing, Retrying, WhenUnwritten};
 pub use socket::{OldSocket, connection};

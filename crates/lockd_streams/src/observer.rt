@@ -42,6 +42,19 @@ pub enum Parting {
     Here,
 }
 
+/// What there is more of than rules allow.
+#[derive(Clone, Copy, Debug, PartialEq, Eq)]
+pub enum Misfit {
+    /// Files.
+    Files,
+    /// Open files.
+    OpenFiles,
+    /// Runs of locked bytes.
+    Runs,
+    /// Parked requests; or one of them would be granted by these rules.
+    Parked,
+}
+
 /// Why a server has no file for its trace.
 #[derive(Drop)]
 pub enum Untraced {
@@ -49,6 +62,10 @@ pub enum Untraced {
     /// sent again. That is the one of this number, and it isn't the one before, or has too few lines. There is none, if
     /// the number is 0.
     Headed(u64),
+    /// What is there doesn't fit the rules that were said, since there are more of these than they allow.
+    Misfit(Misfit),
+    /// No new piece could be begun by the rules that were said.
+    Unturned,
     /// Its folder can't be listed, to find the piece before, for this reason.
     Unlisted(io::Error),
     /// It can't be opened or made, for this reason.

@@ -17,5 +17,5 @@ returns-in-Err-clause-error g c =
 
 pub returns-clause-heard : goal.returns-clause-heard
 returns-clause-heard g c =
-    subst (λ lines. IsHeardBefore c.args.rules (left_of g.B.Read.remaining c.args.before) lines c.in-Ok-with_before.last.past.items)
+    subst (λ lines. IsHeardBefore c.args.under (left_of g.B.Read.remaining c.args.before) lines c.in-Ok-with_before.last.past.items)
     (c.in-Ok-hear_cut.ensures.recent ∙ sym c.in-Ok-gone_on.ensures.past) c.in-Ok-with_before.ensures.heard
