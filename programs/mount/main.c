@@ -13,7 +13,11 @@
 #include <sys/signalfd.h>
 #include <unistd.h>
 
-enum { TICK = 3000, STEP = 50 }; // milliseconds
+// Milliseconds: so often the trace is looked at, and a step of a wait.
+#ifndef TICK
+#define TICK 3000
+#endif
+enum { STEP = 50 };
 enum { INIT_PATIENCE = 20 }; // seconds until INIT has to be answered
 enum { ABORT_TRIES = 40 };
 

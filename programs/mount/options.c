@@ -22,9 +22,9 @@ static const char HELP[] =
     "  --trace FILE          a new file for the trace, or `none`; else one in a new folder in $TMPDIR or /tmp\n"
     "  --resume FILE         a new file for the trace; if the server ends, it is started again and goes on with FILE, and no\n"
     "                        lock is lost; with one worker, and without --trace\n"
-    "  --rotate SIZE         with --resume: begin a new piece of the trace, FILE, once it has so many bytes (as 256M; K, M and G\n"
-    "                        are 1024s), and 65,536 requests and replies; older pieces become FILE.1, FILE.2, ..\n"
-    "  --keep N              how many pieces stay, FILE among them, 2 at least; all, if not said\n"
+    "  --rotate SIZE         with --resume: once FILE has so many bytes, as 256M, and 65,536 requests and replies, a new piece\n"
+    "                        of the trace begins in FILE; older ones become FILE.1, FILE.2, ..\n"
+    "  --keep N              with --rotate: how many pieces stay, FILE among them, 2 at least; all, if not said\n"
     "  --trace-full WORD     what the server does while the trace can't be written: go-on; with --resume, wait or end\n"
     "  --times FILE          a new file for the times of requests and replies, for lockd_report\n"
     "  --fair, --runs N, --parked N, --files N, --open N\n"
@@ -41,7 +41,7 @@ static const char HELP[] =
     "  --count               print at the end how many messages of each opcode the kernel sent\n"
     "  --help, --version\n"
     "\n"
-    "Signals: TERM and INT end the mount, a second one at once; USR1 prints a line of counts; HUP does nothing.\n"
+    "Signals: TERM and INT end the mount, a second one at once; USR1 prints counts; HUP does nothing.\n"
     "Status: 0 the folder was unmounted, 1 the server ended, 2 nothing was mounted, 3 another fault, or a trace that isn't\n"
     "legal or lacks lines, 4 the mount was ended while files were open, so that locks were lost.\n";
 
