@@ -92,11 +92,16 @@ void trace_piece(const struct trace *trace, const struct pieces *pieces, unsigne
 static void see_last(struct trace *trace)
 {
     char path[PIECE_PATH];
+    struct seen last, *before = &trace->seen;
     struct pieces pieces = trace_pieces(trace);
     put_piece(path, trace, pieces.last);
-    trace->last = pieces.count && !stat(path, &trace->last_at) ? pieces.last : 0;
-    if (trace->found != FOUND_WHOLE && trace->found != FOUND_NO_PIECE)
-        trace->last = 0;
+    bool is_whole = pieces.count && see(path, &last) && (trace->found == FOUND_WHOLE || trace->found == FOUND_NO_PIECE);
+    // It may have been cut when it was FILE, and nobody looked.
+    if (is_whole && last.before == before->before && last.at.st_size < before->at.st_size)
+        is_whole = false;
+    trace->last = is_whole ? pieces.last : 0;
+    if (is_whole)
+        trace->last_at = last.at;
 }
 
 // Whether the piece before is there as it was. It doesn't change any more.
