@@ -1,5 +1,5 @@
-"""A mount with --rotate: its server begins new pieces of the trace while processes lock. TRY_MOUNT_KILLS says how often it is killed near such a moment (10),
-by TRY_MOUNT_SEED."""
+"""A mount with --rotate: its server begins new pieces of the trace while processes lock. It is killed near such a moment twice as often as
+TRY_MOUNT_KILLS says (10), by TRY_MOUNT_SEED."""
 import ctypes, os, random, re, select, shutil, signal, struct, subprocess, tempfile, time
 from collections import Counter
 from tests.mount.ends import held_and_waited_for
@@ -86,21 +86,21 @@ def moment(mount):
     return "linked" if is_linked else "in a head" if os.path.exists(f"{mount.file}.new") else "between"
 
 
-def begins_a_piece(mount):
-    """Waits until FILE.new is made. Gives the server: to look for it takes longer than a turn may."""
+def begins_a_piece(mount, is_linked):
+    """Waits until FILE.new is made, or FILE is linked. Gives the server: to look for it takes longer than a turn may."""
     servers, last = [], time.monotonic() + PATIENCE
-    while "file.new" not in mount.happens(0.02) or not servers:
+    while not servers or not any(it[5:].isdigit() if is_linked else it == "file.new" for it in mount.happens(0.02)):
         servers = mount.servers()
         assert time.monotonic() < last, f"no piece begins: {mount.output()}"
     return servers[-1]
 
 
 def kill_near_a_turn(mount, chance):
-    """Kills the server soon after it has made FILE.new, perhaps as soon as it was started. Gives where it was."""
+    """Kills the server in the midst of a turn, or soon after, perhaps as soon as it was started. Gives where it was."""
     if chance.random() < 0.5:
         mount.happens(0)
-    server = begins_a_piece(mount)
-    last = time.monotonic() + chance.choice((0.0005, 0.005, 0.05)) * chance.random()
+    server = begins_a_piece(mount, chance.random() < 0.5)
+    last = time.monotonic() + chance.choice((0, 0.0005, 0.005, 0.05)) * chance.random()
     while time.monotonic() < last:
         pass
     if outcome(os.kill, server, signal.SIGKILL):
@@ -119,7 +119,7 @@ def try_a_server_that_is_killed_as_it_begins_pieces():
     locking = busy(mount)
     locking.begin("often", "a", 1 << 40)
     running = subprocess.Popen([program, mount.folder, "4", str(SEED)], stdin=subprocess.PIPE, stdout=subprocess.PIPE, stderr=subprocess.PIPE, text=True)
-    while sum(moments.values()) < KILLS and running.poll() is None:
+    while sum(moments.values()) < 2 * KILLS and running.poll() is None:
         moments[kill_near_a_turn(mount, chance)] += 1
         if chance.random() < 0.5:
             same(three.ask("flock", "a", ALONE | AT_ONCE), "EAGAIN")
@@ -141,7 +141,7 @@ def try_a_server_that_is_killed_as_it_begins_pieces():
     same(judged(*rules, *mount.kept, mount.file), "legal\n")
 
 
-try_a_server_that_is_killed_as_it_begins_pieces.seconds = 10 * PATIENCE + 4 * KILLS
+try_a_server_that_is_killed_as_it_begins_pieces.seconds = 10 * PATIENCE + 8 * KILLS
 
 
 def lines_of(*paths):
@@ -211,6 +211,7 @@ def try_a_piece_that_a_new_server_needs_is_gone():
     fill(it)
     it.kill()
     one, two = held_and_waited_for(mount)
+    contains(listed(mount).stdout, " WRITE* ")
     (last,) = mount.pieces()
     os.unlink(f"{mount.file}.{last}")
     os.kill(mount.server(), signal.SIGKILL)
