@@ -200,6 +200,15 @@ def try_what_becomes_of_pieces_is_told():
     told("lacks the piece before it, or a part of that")
     fill(it)
     told("is whole again")
+    # What the server says of pieces is passed on.
+    os.mkdir(f"{mount.file}.new")
+    fill(it)
+    mount.happens(0)
+    same(mount.output().count(f"no new piece of {mount.file}: "), 1)
+    os.rmdir(f"{mount.file}.new")
+    it.begin("often", "a", 1)
+    mount.turn()
+    same(it.answer(), "ok")
     it.kill()
     same(mount.end(), (0, "legal"))
 
