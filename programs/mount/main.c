@@ -13,7 +13,11 @@
 #include <sys/signalfd.h>
 #include <unistd.h>
 
-enum { TICK = 3000, STEP = 50 }; // milliseconds
+// Milliseconds: so often the trace is looked at, and a step of a wait.
+#ifndef TICK
+#define TICK 3000
+#endif
+enum { STEP = 50 };
 enum { INIT_PATIENCE = 20 }; // seconds until INIT has to be answered
 enum { ABORT_TRIES = 40 };
 
@@ -64,13 +68,20 @@ static const char *counts_text(void)
     return text;
 }
 
+static void say_counts(void)
+{
+    say("%s", counts_text());
+    if (mount.server.trace.path[0])
+        say("%s", trace_text(&mount.server.trace));
+}
+
 // The signal that asks for the end, if one came, or 0.
 static int signal_to_end(void)
 {
     struct signalfd_siginfo came;
     while (read(mount.signals, &came, sizeof came) == sizeof came) {
         if (came.ssi_signo == SIGUSR1 && !mount.starts)
-            say("%s", counts_text());
+            say_counts();
         else if (came.ssi_signo == SIGTERM || came.ssi_signo == SIGINT)
             return (int)came.ssi_signo;
     }
@@ -190,22 +201,27 @@ static void begin(void)
     mount.starts = false;
     printf("mounted at %s\n", mount.place.path);
     if (!mount.options.trace)
-        printf("its trace is %s\n", mount.server.trace);
+        printf("its trace is %s\n", mount.server.trace.path);
     fflush(stdout);
     notify("READY=1\nSTATUS=mounted at %s", mount.place.path);
 }
 
 // ---- While it runs ----
 
-// Says once that the trace's file isn't there any more, or lacks what it had.
-static void miss_trace(void)
+// Says what became of the trace's file: once, and again when that changes. Gives whether it is there.
+static bool has_trace(void)
 {
-    static bool said;
-    if (said || server_has_its_trace(&mount.server))
-        return;
-    said = true;
-    say("the trace %s was removed, replaced or cut%s", mount.server.trace,
-        mount.options.resume ? ": if the server ends, no other one goes on, and locks are lost" : "");
+    static enum found told = FOUND_WHOLE;
+    enum found found = trace_look(&mount.server.trace);
+    const char *then = "";
+    if (mount.options.resume && found == FOUND_NO_PIECE)
+        then = ": if the server ends soon, no other one goes on, and locks are lost";
+    else if (mount.options.resume && found != FOUND_WHOLE)
+        then = ": if the server ends, no other one goes on, and locks are lost";
+    if (found != told)
+        say("the trace %s %s%s", mount.server.trace.path, trace_became(found), then);
+    told = found;
+    return found == FOUND_WHOLE || found == FOUND_NO_PIECE;
 }
 
 // Says once that orders were answered for a while and the trace's file didn't grow.
@@ -213,25 +229,22 @@ static void watch_trace(void)
 {
     static struct {
         unsigned long long lines;
-        off_t size;
+        struct seen seen;
     } before[2];
     static bool said;
     struct counts counts;
-    struct stat trace;
-    if (!mount.server.trace[0])
+    if (!mount.server.trace.path[0] || !has_trace())
         return;
-    server_look(&mount.server);
-    miss_trace();
-    if (stat(mount.server.trace, &trace))
-        return;
+    const struct seen *seen = &mount.server.trace.seen, *then = &before[1].seen;
     carrier_counts(&counts);
-    bool stands = before[0].lines > before[1].lines && before[1].size == trace.st_size && before[1].lines;
+    bool has_grown = then->at.st_size != seen->at.st_size || then->before != seen->before;
+    bool stands = before[1].lines && before[0].lines > before[1].lines && !has_grown;
     if (stands && !said)
-        say("the trace %s doesn't grow: is its disk full?", mount.server.trace);
+        say("the trace %s doesn't grow: is its disk full?", mount.server.trace.path);
     said = stands;
     before[1] = before[0];
     before[0].lines = counts.lines;
-    before[0].size = trace.st_size;
+    before[0].seen = *seen;
 }
 
 static void tick(void)

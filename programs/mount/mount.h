@@ -31,6 +31,8 @@ struct options {
     const char *folder;
     const char *trace; // NULL: a new file in a new folder; "none": nowhere
     const char *resume; // NULL, or the trace of a server that is started again when it ends
+    const char *rotate; // NULL, or the bytes of a piece of this trace
+    const char *keep; // NULL: all pieces stay
     const char *trace_full;
     const char *times; // NULL: they aren't written
     const char *source; // as /proc/mounts names it
@@ -62,6 +64,45 @@ void notify(const char *what, ...) __attribute__((format(printf, 1, 2)));
 // Seconds of a clock that nobody sets.
 double seconds(void);
 
+// ---- trace.c ----
+
+// What is known of the trace's file: how it was, and how many orders and replies stand before it, by its head.
+struct seen {
+    struct stat at;
+    unsigned long long before;
+};
+
+// What became of it. NO_PIECE: of the piece before it.
+enum found { FOUND_WHOLE, FOUND_NONE, FOUND_ANOTHER, FOUND_CUT, FOUND_NO_PIECE };
+
+struct trace {
+    char path[PATH_MAX]; // absolute, or "" if there is none
+    bool turns; // the server begins a new piece of it now and then
+    bool was_cut; // since the piece began
+    enum found found; // by the last look
+    struct seen seen; // with the most bytes that it was seen to have
+    unsigned long last; // the number of the piece before, or 0
+    struct stat last_at;
+};
+
+// The pieces that stand before the file in a row: so many, up to the one of this number.
+enum { PIECE_PATH = PATH_MAX + 24 };
+struct pieces {
+    unsigned long last, count;
+};
+
+// A server has just begun to write to the file.
+void trace_begins(struct trace *trace);
+// Sees whether the file is there, with all that it was seen to have, and with `turns` the piece before it.
+enum found trace_look(struct trace *trace);
+// What became of it, in some words behind its path.
+const char *trace_became(enum found found);
+struct pieces trace_pieces(const struct trace *trace);
+// The path of one of them, the oldest first. There is room for PIECE_PATH bytes.
+void trace_piece(const struct trace *trace, const struct pieces *pieces, unsigned long at, char *to);
+// How many pieces and bytes there are.
+const char *trace_text(const struct trace *trace);
+
 // ---- server.c ----
 
 struct server {
@@ -71,18 +112,13 @@ struct server {
     bool was_killed; // by this program, since it didn't end
     bool is_cut; // its last line may be half there: no other server came after it
     bool was_there; // the trace's file, and empty
-    struct stat seen; // the trace's file, with the most bytes that it was seen to have
     char program[PATH_MAX];
     char work[PATH_MAX]; // its folder, or ""
-    char trace[PATH_MAX];
+    struct trace trace;
 };
 
 // Starts `lockd serve` and connects to it. `stops` says whether to give up.
 void server_start(struct server *server, const struct options *options, bool (*stops)(void));
-// Sees how many bytes its trace has: with fewer no other server goes on.
-void server_look(struct server *server);
-// Whether the file of its trace is there, with all that it was seen to have.
-bool server_has_its_trace(const struct server *server);
 // Starts another one when one has ended, to go on with its trace, and connects to it. Gives the
 // socket, or -1: a line said why, or `stops` said to give up.
 int server_restart(struct server *server, const struct options *options, bool (*stops)(void));

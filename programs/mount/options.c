@@ -22,6 +22,9 @@ static const char HELP[] =
     "  --trace FILE          a new file for the trace, or `none`; else one in a new folder in $TMPDIR or /tmp\n"
     "  --resume FILE         a new file for the trace; if the server ends, it is started again and goes on with FILE, and no\n"
     "                        lock is lost; with one worker, and without --trace\n"
+    "  --rotate SIZE         with --resume: once FILE has so many bytes, as 256M, and 65,536 requests and replies, a new piece\n"
+    "                        of the trace begins in FILE; older ones become FILE.1, FILE.2, ..\n"
+    "  --keep N              with --rotate: how many pieces stay, FILE among them, 2 at least; all, if not said\n"
     "  --trace-full WORD     what the server does while the trace can't be written: go-on; with --resume, wait or end\n"
     "  --times FILE          a new file for the times of requests and replies, for lockd_report\n"
     "  --fair, --runs N, --parked N, --files N, --open N\n"
@@ -38,7 +41,7 @@ static const char HELP[] =
     "  --count               print at the end how many messages of each opcode the kernel sent\n"
     "  --help, --version\n"
     "\n"
-    "Signals: TERM and INT end the mount, a second one at once; USR1 prints a line of counts; HUP does nothing.\n"
+    "Signals: TERM and INT end the mount, a second one at once; USR1 prints counts; HUP does nothing.\n"
     "Status: 0 the folder was unmounted, 1 the server ended, 2 nothing was mounted, 3 another fault, or a trace that isn't\n"
     "legal or lacks lines, 4 the mount was ended while files were open, so that locks were lost.\n";
 
@@ -60,6 +63,26 @@ static long number(const char *word, const char *name, int base, long least, lon
     return found;
 }
 
+// A number of bytes, perhaps with a suffix. The server gets it in digits alone.
+static void take_size(struct options *options, const char *word)
+{
+    static char text[24];
+    const char *const suffixes = "KMG";
+    char *end = NULL;
+    errno = 0;
+    unsigned long found = *word >= '0' && *word <= '9' ? strtoul(word, &end, 10) : 0;
+    const char *suffix = end && *end ? strchr(suffixes, *end) : NULL;
+    int bits = suffix ? 10 * (int)(suffix - suffixes + 1) : 0;
+    bool is_size = end && (suffix ? !end[1] : !*end), is_much = errno || found > UINT32_MAX >> bits;
+    errno = 0;
+    if (!is_size || (!found && !is_much))
+        fail("--rotate: a number of bytes from 1, perhaps with K, M or G behind it, and not `%s`", word);
+    if (is_much)
+        fail("--rotate: `%s` is too much: take at most %u bytes, as 256M", word, UINT32_MAX);
+    snprintf(text, sizeof text, "%lu", found << bits);
+    options->rotate = text;
+}
+
 static void take_number(struct options *options, const char *name, const char *word)
 {
     const long most_id = (long)UINT32_MAX - 1;
@@ -69,8 +92,12 @@ static void take_number(struct options *options, const char *name, const char *w
         options->uid = number(word, name, 10, 0, most_id);
     else if (!strcmp(name, "gid"))
         options->gid = number(word, name, 10, 0, most_id);
-    else
+    else if (!strcmp(name, "keep")) {
+        number(word, name, 10, 2, UINT32_MAX);
+        options->keep = word;
+    } else {
         options->grace = number(word, name, 10, 0, 86400);
+    }
 }
 
 static void take_rule(struct options *options, const char *name, const char *word)
@@ -85,7 +112,7 @@ static void take_rule(struct options *options, const char *name, const char *wor
 // What rules of the server allow, which makes the tables here.
 enum { MOST_FILES = 65536, STANDARD_FILES = 256, STANDARD_OPEN = 1024 };
 
-enum { ALLOW = 1, COUNT, DISCARD, NONEMPTY, NO_CHECK, WORKERS, TRACE, RESUME, TRACE_FULL, TIMES, SOURCE, FAIR, RUNS, PARKED, FILES, OPEN, NUMBER, HELPS, VERSIONS };
+enum { ALLOW = 1, COUNT, DISCARD, NONEMPTY, NO_CHECK, WORKERS, TRACE, RESUME, ROTATE, TRACE_FULL, TIMES, SOURCE, FAIR, RUNS, PARKED, FILES, OPEN, NUMBER, HELPS, VERSIONS };
 
 static void take(struct options *options, int option, const char *name)
 {
@@ -101,6 +128,7 @@ static void take(struct options *options, int option, const char *name)
         break;
     case TRACE: options->trace = optarg; break;
     case RESUME: options->resume = optarg; break;
+    case ROTATE: take_size(options, optarg); break;
     case TRACE_FULL: options->trace_full = optarg; break;
     case TIMES: options->times = optarg; break;
     case SOURCE: options->source = optarg; break;
@@ -126,6 +154,23 @@ static void take(struct options *options, int option, const char *name)
     }
 }
 
+// Options that don't go together.
+static void refuse_pairs(const struct options *options)
+{
+    // The kernel doesn't send a FLUSH, RELEASE or FORGET again that is rejected, and sends an INTERRUPT again at once.
+    if (options->trace_full && !strcmp(options->trace_full, "refuse"))
+        misused("--trace-full refuse isn't for a mount, where a close that is rejected is lost: take go-on, or --resume FILE with wait or end");
+    bool waits = options->trace_full && (!strcmp(options->trace_full, "wait") || !strcmp(options->trace_full, "end"));
+    if (options->trace_full && (options->resume ? !waits : strcmp(options->trace_full, "go-on") != 0))
+        misused("--trace-full takes go-on, and with --resume FILE it takes wait or end");
+    if (options->resume && (options->trace || atoi(options->workers) != 1))
+        misused("--resume goes with one worker, and without --trace");
+    if (options->rotate && !options->resume)
+        misused("--rotate goes with --resume FILE");
+    if (options->keep && !options->rotate)
+        misused("--keep goes with --rotate SIZE");
+}
+
 void read_options(int argc, char **argv, struct options *options)
 {
     static const struct option known[] = {
@@ -140,6 +185,7 @@ void read_options(int argc, char **argv, struct options *options)
         {"grace", required_argument, NULL, NUMBER},      {"help", no_argument, NULL, HELPS},
         {"version", no_argument, NULL, VERSIONS},        {"times", required_argument, NULL, TIMES},
         {"resume", required_argument, NULL, RESUME},     {"source", required_argument, NULL, SOURCE},
+        {"rotate", required_argument, NULL, ROTATE},     {"keep", required_argument, NULL, NUMBER},
         {NULL, 0, NULL, 0},
     };
     *options = (struct options){.workers = "1", .source = "lockd", .files = STANDARD_FILES, .open = STANDARD_OPEN, .mode = -1, .uid = -1, .gid = -1};
@@ -148,14 +194,7 @@ void read_options(int argc, char **argv, struct options *options)
         take(options, option, known[at].name);
     if (argc - optind != 1 || !*argv[optind])
         misused(argc - optind > 1 ? "more than one folder" : "no folder");
-    // The kernel doesn't send a FLUSH, RELEASE or FORGET again that is rejected, and sends an INTERRUPT again at once.
-    if (options->trace_full && !strcmp(options->trace_full, "refuse"))
-        misused("--trace-full refuse isn't for a mount, where a close that is rejected is lost: take go-on, or --resume FILE with wait or end");
-    bool waits = options->trace_full && (!strcmp(options->trace_full, "wait") || !strcmp(options->trace_full, "end"));
-    if (options->trace_full && (options->resume ? !waits : strcmp(options->trace_full, "go-on") != 0))
-        misused("--trace-full takes go-on, and with --resume FILE it takes wait or end");
-    if (options->resume && (options->trace || atoi(options->workers) != 1))
-        misused("--resume goes with one worker, and without --trace");
+    refuse_pairs(options);
     if (!*options->source)
         misused("--source takes a name");
     options->folder = argv[optind];

@@ -81,6 +81,17 @@ static void make_folder(struct server *server)
     }
 }
 
+// Its pieces get names that no other file has: older ones may be removed.
+static void refuse_pieces(const struct trace *trace)
+{
+    struct pieces pieces = {0};
+    if (trace->turns)
+        pieces = trace_pieces(trace);
+    errno = 0;
+    if (pieces.last)
+        fail("%s.%lu is there already, as if it were a piece of this trace: name another FILE", trace->path, pieces.last);
+}
+
 // A file that is there already is that of another mount. With --resume an empty one does: it has no
 // locks.
 static void place_trace(struct server *server, const struct options *options)
@@ -88,7 +99,7 @@ static void place_trace(struct server *server, const struct options *options)
     const char *named = options->resume ? options->resume : options->trace;
     struct stat at;
     if (!named)
-        snprintf(server->trace, sizeof server->trace, "%.*s/trace", PATH_MAX - 16, server->work);
+        snprintf(server->trace.path, sizeof server->trace.path, "%.*s/trace", PATH_MAX - 16, server->work);
     if (!named || (!options->resume && !strcmp(named, "none")))
         return;
     server->was_there = !lstat(named, &at);
@@ -97,7 +108,17 @@ static void place_trace(struct server *server, const struct options *options)
         fail("a file is at %s already", named);
     if (server->was_there && (!S_ISREG(at.st_mode) || at.st_size))
         fail("%s isn't an empty file: name a new one, since the processes that held its locks are gone", named);
-    place_absolute(server->trace, named);
+    place_absolute(server->trace.path, named);
+    server->trace.turns = options->rotate != NULL;
+    refuse_pieces(&server->trace);
+}
+
+static void put_option(const char *words[], size_t *count, const char *name, const char *value)
+{
+    if (!value)
+        return;
+    words[(*count)++] = name;
+    words[(*count)++] = value;
 }
 
 // The words after the socket's path, from the one of this number.
@@ -105,17 +126,16 @@ static void put_options(const char *words[], size_t count, const struct server *
 {
     if (options->resume) {
         words[count++] = "--resume";
-        words[count++] = server->trace;
+        words[count++] = server->trace.path;
+        put_option(words, &count, "--rotate", options->rotate);
+        put_option(words, &count, "--keep", options->keep);
     } else {
         words[count++] = "--workers";
         words[count++] = options->workers;
         words[count++] = "--trace";
-        words[count++] = server->trace[0] ? server->trace : "none";
+        words[count++] = server->trace.path[0] ? server->trace.path : "none";
     }
-    if (options->trace_full) {
-        words[count++] = "--trace-full";
-        words[count++] = options->trace_full;
-    }
+    put_option(words, &count, "--trace-full", options->trace_full);
     for (int i = 0; i < options->rule_count; i++)
         words[count++] = options->rules[i];
 }
@@ -187,7 +207,7 @@ enum begun { CONNECTED, NOT_STARTED, NOT_CONNECTED, ENDED, STOPPED, NOT_TRIED };
 static enum begun begin(struct server *server, const struct options *options, bool (*stops)(void), double patience)
 {
     server->socket = socket(AF_UNIX, SOCK_STREAM | SOCK_CLOEXEC, 0);
-    int faults = server->socket < 0 ? -1 : faults_open(server->trace);
+    int faults = server->socket < 0 ? -1 : faults_open(server->trace.path);
     pid_t carrier = getpid();
     server->pid = faults < 0 ? -1 : fork();
     if (!server->pid)
@@ -215,22 +235,6 @@ static enum begun begin(struct server *server, const struct options *options, bo
     return CONNECTED;
 }
 
-void server_look(struct server *server)
-{
-    struct stat at;
-    if (!server->trace[0] || stat(server->trace, &at))
-        return;
-    bool is_first = !server->seen.st_ino;
-    if (is_first || (at.st_dev == server->seen.st_dev && at.st_ino == server->seen.st_ino && at.st_size > server->seen.st_size))
-        server->seen = at;
-}
-
-bool server_has_its_trace(const struct server *server)
-{
-    struct stat at;
-    return !stat(server->trace, &at) && at.st_dev == server->seen.st_dev && at.st_ino == server->seen.st_ino && at.st_size >= server->seen.st_size;
-}
-
 void server_start(struct server *server, const struct options *options, bool (*stops)(void))
 {
     find_program(server);
@@ -238,7 +242,7 @@ void server_start(struct server *server, const struct options *options, bool (*s
     place_trace(server, options);
     // The lines of the server, and those of the mount, name it.
     errno = 0;
-    if (strchr(server->trace, '\n'))
+    if (strchr(server->trace.path, '\n'))
         fail("the path of the trace has a newline: name another FILE");
     enum begun begun = begin(server, options, stops, PATIENCE);
     if (begun == NOT_STARTED)
@@ -252,7 +256,7 @@ void server_start(struct server *server, const struct options *options, bool (*s
         say_end(server, " before it listened");
         fail("%s can't serve; nothing is mounted", server->program);
     }
-    server_look(server);
+    trace_begins(&server->trace);
 }
 
 static void remove_folder(const struct server *server)
@@ -276,10 +280,10 @@ void server_drop(struct server *server)
 {
     if (server->pid) {
         kill_server(server);
-        if (server->was_there && truncate(server->trace, 0))
-            say("%s isn't empty any more", server->trace);
-        else if (server->trace[0] && !server->was_there)
-            unlink(server->trace);
+        if (server->was_there && truncate(server->trace.path, 0))
+            say("%s isn't empty any more", server->trace.path);
+        else if (server->trace.path[0] && !server->was_there)
+            unlink(server->trace.path);
     }
     remove_folder(server);
 }
@@ -329,9 +333,11 @@ static bool comes_again(const struct server *server, const struct options *optio
 // One that is killed before it listens comes again, too.
 static enum begun begin_again(struct server *server, const struct options *options, bool (*stops)(void))
 {
-    if (!server_has_its_trace(server)) {
+    enum found found = trace_look(&server->trace);
+    // Whether the piece before is needed, the server knows.
+    if (found != FOUND_WHOLE && found != FOUND_NO_PIECE) {
         say_end(server, "");
-        say("%s was removed, replaced or cut: another server wouldn't know all locks", server->trace);
+        say("%s %s: another server wouldn't know all locks", server->trace.path, trace_became(found));
         return NOT_TRIED;
     }
     while (comes_again(server, options)) {
@@ -352,7 +358,9 @@ static void say_no_other(const struct server *server, enum begun begun)
     if (begun == ENDED)
         say_end(server, " before it listened");
     if (begun == ENDED)
-        say("%s can't go on with %s", server->program, server->trace);
+        say("%s can't go on with %s", server->program, server->trace.path);
+    if (begun == ENDED && server->trace.found == FOUND_NO_PIECE)
+        say("%s %s", server->trace.path, trace_became(FOUND_NO_PIECE));
 }
 
 int server_restart(struct server *server, const struct options *options, bool (*stops)(void))
@@ -361,8 +369,7 @@ int server_restart(struct server *server, const struct options *options, bool (*
     enum begun begun = begin_again(server, options, stops);
     if (begun == CONNECTED) {
         // It may have cut off half a line at the end.
-        server->seen = (struct stat){0};
-        server_look(server);
+        trace_begins(&server->trace);
         return server->socket;
     }
     say_no_other(server, begun);
@@ -374,28 +381,51 @@ int server_restart(struct server *server, const struct options *options, bool (*
     return -1;
 }
 
-// What `lockd check` says of the trace: its status, or 127.
-static int judged(const struct server *server, const struct options *options, bool is_cut)
+// The words of `lockd check`, for which there is room: pieces in a row are judged as one history, and a file that may be cut off alone.
+static void put_check(const char *words[], const struct server *server, const struct options *options, bool is_cut, const struct pieces *pieces)
 {
-    const char *words[32] = {server->program, "check"};
-    size_t count = 2;
+    char path[PIECE_PATH];
+    size_t count = 0;
+    words[count++] = server->program;
+    words[count++] = "check";
     if (is_cut)
         words[count++] = "--cut";
     for (int i = 0; i < options->rule_count; i++)
         words[count++] = options->rules[i];
+    for (unsigned long at = 0; at < pieces->count; at++) {
+        trace_piece(&server->trace, pieces, at, path);
+        words[count++] = strdup(path);
+    }
+    if (pieces->count)
+        words[count++] = server->trace.path;
+}
+
+// Becomes `lockd check` of the trace.
+static void run_check(const struct server *server, const struct options *options, bool is_cut)
+{
+    struct pieces pieces = {0};
+    if (server->trace.turns && !is_cut)
+        pieces = trace_pieces(&server->trace);
+    const char **words = calloc(32 + pieces.count, sizeof *words);
+    int trace = open(server->trace.path, O_RDONLY);
+    if (!words || trace < 0 || dup2(trace, STDIN_FILENO) < 0)
+        _exit(127);
+    put_check(words, server, options, is_cut, &pieces);
+    sigset_t none;
+    sigemptyset(&none);
+    sigprocmask(SIG_SETMASK, &none, NULL);
+    execv(server->program, (char *const *)(uintptr_t)words);
+    _exit(127);
+}
+
+// What it says: its status, or 127.
+static int judged(const struct server *server, const struct options *options, bool is_cut)
+{
     fflush(stdout);
     pid_t child = fork();
     int status = 0;
-    if (!child) {
-        int trace = open(server->trace, O_RDONLY);
-        sigset_t none;
-        sigemptyset(&none);
-        sigprocmask(SIG_SETMASK, &none, NULL);
-        if (trace < 0 || dup2(trace, STDIN_FILENO) < 0)
-            _exit(127);
-        execv(server->program, (char *const *)(uintptr_t)words);
-        _exit(127);
-    }
+    if (!child)
+        run_check(server, options, is_cut);
     if (child < 0 || waitpid(child, &status, 0) != child)
         return 127;
     return WIFEXITED(status) ? WEXITSTATUS(status) : 127;
@@ -413,9 +443,9 @@ int server_finish(struct server *server, const struct options *options, int stat
             status = STATUS_FAULT;
     }
     remove_folder(server);
-    if (!server->trace[0])
+    if (!server->trace.path[0])
         return status;
-    printf("trace: %s\n", server->trace);
+    printf("trace: %s\n", server->trace.path);
     fflush(stdout);
     if (!options->no_check && judged(server, options, is_cut))
         status = STATUS_FAULT;

@@ -205,6 +205,12 @@ def ofd(fd, kind, start=0, length=0, waits=False):
     fcntl.fcntl(fd, 38 if waits else 37, struct.pack(STRUCT_FLOCK, kind, 0, start, length, 0))
 
 
+def flock_often(fd, count):
+    for _ in range(count):
+        fcntl.flock(fd, ALONE)
+        fcntl.flock(fd, NOT_HELD)
+
+
 def asked(fd, kind, start=0, length=0, command=fcntl.F_GETLK):
     """What F_GETLK or OFD_GETLK says: nothing, or the kind, start, length and pid of a lock that is in the way."""
     told = struct.unpack(STRUCT_FLOCK, fcntl.fcntl(fd, command, struct.pack(STRUCT_FLOCK, kind, 0, start, length, 0)))
@@ -253,7 +259,7 @@ class Child:
                 fds[rest[0]] = os.dup(fds[key])
                 said = None
             else:
-                said = outcome({"record": record, "asked": asked, "flock": fcntl.flock, "ofd": ofd}[word], fds[key], *rest)
+                said = outcome({"record": record, "asked": asked, "flock": fcntl.flock, "often": flock_often, "ofd": ofd}[word], fds[key], *rest)
             pipe.send("ok" if said is None and word != "asked" else said)
 
     def begin(self, *words):

@@ -18,11 +18,11 @@ def built(name):
     return f"{WORK}/{name}"
 
 
-def starting_often():
+def starting_often(name="lockd_mount_often", *more):
     """A carrier that starts its server again as often as it ends, with the sanitizers if there are any."""
     checks = ["-g", "-fsanitize=address,undefined", "-fno-sanitize-recover=undefined"] if os.environ.get("LOCKD_MOUNT_CHECKED") else []
-    subprocess.run([f"{TOP}/programs/mount/build", f"{WORK}/lockd_mount_often", "-DMOST_RESTARTS=100000", *checks], check=True, timeout=5 * PATIENCE)
-    return f"{WORK}/lockd_mount_often"
+    subprocess.run([f"{TOP}/programs/mount/build", f"{WORK}/{name}", "-DMOST_RESTARTS=100000", *more, *checks], check=True, timeout=5 * PATIENCE)
+    return f"{WORK}/{name}"
 
 
 class Resumed(Mount):
@@ -438,12 +438,12 @@ def try_a_file_that_is_gone_or_cut():
     def replace(file):
         os.replace(shutil.copy(file, f"{file}.copy"), file)
 
-    for spoil, status in (os.remove, 3), (cut, 1), (replace, 1):
+    for spoil, status, became in (os.remove, 3, "was moved or removed"), (cut, 1, "was cut"), (replace, 1, "was replaced"):
         mount = Resumed()
         one, two = held_and_waited_for(mount)
         spoil(mount.file)
         os.kill(mount.server(), signal.SIGKILL)
-        lost(mount, one, two, status, f"{mount.file} was removed, replaced or cut: another server wouldn't know all locks")
+        lost(mount, one, two, status, f"{mount.file} {became}: another server wouldn't know all locks")
 
 
 def try_a_file_that_is_gone_or_cut_is_told_within_seconds():
@@ -454,14 +454,15 @@ def try_a_file_that_is_gone_or_cut_is_told_within_seconds():
         shell(mount, "flock held echo in", "in")
     # A mount sees how long it is every three seconds.
     time.sleep(7)
+    became = "was moved or removed", "was cut", "was moved or removed"
     for (_, file), spoil in zip(mounts, (os.remove, lambda it: os.truncate(it, 9), os.remove)):
         spoil(file)
-    for mount, _ in mounts:
-        until(lambda: "was removed, replaced or cut" in mount.output())
+    for (mount, file), said in zip(mounts, became):
+        until(lambda: f"the trace {file} {said}" in mount.output())
         shell(mount, "flock held echo in", "in")
     time.sleep(4)
     for mount, file in mounts:
-        same((mount.output().count(f"the trace {file} was removed"), mount.end()[0]), (1, 3))
+        same((mount.output().count(f"the trace {file} "), mount.end()[0]), (1, 3))
 
 
 def try_a_program_that_is_gone():
