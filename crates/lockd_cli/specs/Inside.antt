@@ -19,6 +19,7 @@ use Rattle.lockd_cli.specs.declared.options.WhenFull.{WhenFull}
 use Rattle.lockd_cli.specs.declared.options.WhenFull.TheVariants as full
 use Rattle.lockd_cli.specs.declared.options.WhenStuck.{WhenStuck}
 use Rattle.lockd_cli.specs.declared.options.WhenStuck.TheVariants as stuck
+use Rattle.lockd_cli.specs.declared.rotation.Rotation.{Rotation}
 use Rattle.lockd_cli.specs.declared.said_rules.SaidRules.{SaidRules}
 
 -- the text is digits that write this number; a plus may stand first
@@ -38,6 +39,23 @@ IsNumberOf (Some text) Allows usual number = (n : ℕ) → Spells text n → All
 abbrev pub IsNumberSaid : Option (List ℕ) → Option ℕ → Type 0
 IsNumberSaid None said = said ≡ None
 IsNumberSaid (Some text) said = (n : ℕ) → Spells text n → n < 2 ^ 32 → said ≡ Some n
+
+-- a new piece may be due at so many bytes
+abbrev pub AllowsBytes : ℕ → Type 0
+AllowsBytes bytes = (1 ≤ bytes) × (bytes < 2 ^ 32)
+
+-- so many pieces may stay
+abbrev pub AllowsKept : ℕ → Type 0
+AllowsKept pieces = (2 ≤ pieces) × (pieces < 2 ^ 32)
+
+-- a new piece is due at so many bytes as the option's text spells, if that is allowed
+abbrev pub IsDueAt : Option (List ℕ) → ℕ → Type 0
+IsDueAt said bytes = (text : List ℕ) (n : ℕ) → said ≡ Some text → Spells text n → AllowsBytes n → bytes ≡ n
+
+-- so many pieces stay as the option's text spells, if that is allowed, and all if it has no text
+abbrev pub AreKept : Option (List ℕ) → Option ℕ → Type 0
+AreKept None kept = kept ≡ None
+AreKept (Some text) kept = (n : ℕ) → Spells text n → AllowsKept n → kept ≡ Some n
 
 -- the flag is set if its text is true, and not if that is false or there is none
 abbrev pub IsFlagOf : Option (List ℕ) → Bool → Type 0
@@ -112,6 +130,24 @@ Misfits found =
     ((first_value found (codes "resume") ≢ None) × IsNotForResume found)
     ⊎ ((first_value found (codes "resume") ≡ None) × MisfitsTrace found)
 
+-- nothing is said of pieces
+abbrev pub SaysNoPieces : Found → Type 0
+SaysNoPieces found = (first_value found (codes "rotate") ≡ None) × (first_value found (codes "keep") ≡ None)
+
+-- A new piece is due at the bytes that `--rotate` says, and so many stay as `--keep` says. Without a rotation nothing
+-- is said of pieces.
+abbrev pub SaysRotation : Found → Option Rotation → Type 0
+SaysRotation found None = SaysNoPieces found
+SaysRotation found (Some rotation) =
+    (first_value found (codes "rotate") ≢ None) × IsDueAt (one_text found (codes "rotate")) rotation.bytes
+    × AreKept (one_text found (codes "keep")) rotation.keep
+
+-- an option of pieces lacks the one that it needs: `--rotate` lacks `--resume`, or `--keep` lacks `--rotate`
+abbrev pub MisfitsPieces : Found → Type 0
+MisfitsPieces found =
+    ((first_value found (codes "rotate") ≢ None) × (first_value found (codes "resume") ≡ None))
+    ⊎ ((first_value found (codes "keep") ≢ None) × (first_value found (codes "rotate") ≡ None))
+
 -- the path that is said for the socket
 abbrev pub socket_said : Found → List ℕ
 socket_said found = unwrap_or (first_value found (codes "SOCKET")) []
@@ -135,10 +171,10 @@ Ask found (asked.Locks at file json rules) =
 Ask found (asked.Serve socket workers trace rules) =
     (string_bytes socket ≡ socket_said found)
     × IsNumberOf (one_text found (codes "workers")) AllowsWorkers 4 workers
-    × SaysTrace found trace × SayRules found rules × (first_value found (codes "resume") ≡ None)
-Ask found (asked.Resume socket file stuck rules) =
+    × SaysTrace found trace × SayRules found rules × (first_value found (codes "resume") ≡ None) × SaysNoPieces found
+Ask found (asked.Resume socket file stuck rotation rules) =
     (string_bytes socket ≡ socket_said found) × (first_value found (codes "resume") ≡ Some (string_bytes file))
-    × SaysWhenStuck found stuck × SayRules found rules
+    × SaysWhenStuck found stuck × SaysRotation found rotation × SayRules found rules
 Ask found (asked.Drive socket) = string_bytes socket ≡ socket_said found
 Ask found asked.Version = ⊥
 
@@ -150,7 +186,7 @@ word_of (asked.State rules) = codes "state"
 word_of (asked.Check pieces quiet cut rules) = codes "check"
 word_of (asked.Locks at file json rules) = codes "locks"
 word_of (asked.Serve socket workers trace rules) = codes "serve"
-word_of (asked.Resume socket file stuck rules) = codes "serve"
+word_of (asked.Resume socket file stuck rotation rules) = codes "serve"
 word_of (asked.Drive socket) = codes "drive"
 word_of asked.Version = codes "--version"
 

@@ -1,6 +1,7 @@
 //! The commands of `lockd` and their options: a table of each, and what `clap` makes of it.
 
 use crate::options::MOST_WORKERS;
+use crate::rotation_options::LEAST_KEPT;
 use crate::version::VERSION;
 use clap::builder::ValueParser;
 use clap::{Arg, ArgAction, Command, Error};
@@ -28,8 +29,8 @@ struct Argument {
 enum Kind {
     // An option without a value, which may have a letter.
     Flag(Option<char>),
-    // An option with a number from 1 to this one.
-    FromOneTo(i64),
+    // An option with a number from the first to the second, which has this name in the help.
+    Between(&'static str, i64, i64),
     // An option with a number from 0 on.
     Number,
     // An option with a text that isn't empty, which has this name in the help.
@@ -134,7 +135,7 @@ const SERVE: &[Argument] = &[
     Argument {
         name: "workers",
         help: "How many workers take orders, 1 to 16; 4, if not said",
-        kind: Kind::FromOneTo(MOST_WORKERS as i64),
+        kind: Kind::Between("N", 1, MOST_WORKERS as i64),
         conflicts_with: &[],
     },
     Argument {
@@ -148,6 +149,18 @@ const SERVE: &[Argument] = &[
         help: "Goes on behind the trace that a server left in this file, which is made if it isn't there; one worker writes each order's lines there before its replies go out",
         kind: Kind::Text("FILE"),
         conflicts_with: &["trace", "workers"],
+    },
+    Argument {
+        name: "rotate",
+        help: "With --resume FILE: begins a new piece of the trace in FILE once that has so many bytes, and 65536 orders and replies behind its head; older pieces are FILE.1, FILE.2, and so on",
+        kind: Kind::Between("BYTES", 1, u32::MAX as i64),
+        conflicts_with: &[],
+    },
+    Argument {
+        name: "keep",
+        help: "With --rotate BYTES: how many pieces stay, FILE among them, 2 or more; all, if not said",
+        kind: Kind::Between("N", LEAST_KEPT as i64, u32::MAX as i64),
+        conflicts_with: &[],
     },
     // The first two words go with --trace, and the others with --resume.
     Argument {
@@ -176,25 +189,25 @@ const RULES: &[Argument] = &[
     Argument {
         name: "runs",
         help: "How many runs of locked bytes there may be, 1 to 65536; 4096, if not said",
-        kind: Kind::FromOneTo(MOST_RUNS as i64),
+        kind: Kind::Between("N", 1, MOST_RUNS as i64),
         conflicts_with: &[],
     },
     Argument {
         name: "parked",
         help: "How many requests may wait, 1 to 1024; 256, if not said",
-        kind: Kind::FromOneTo(MOST_PARKED as i64),
+        kind: Kind::Between("N", 1, MOST_PARKED as i64),
         conflicts_with: &[],
     },
     Argument {
         name: "files",
         help: "How many files there may be, 1 to 65536; 256, if not said",
-        kind: Kind::FromOneTo(MOST_FILES as i64),
+        kind: Kind::Between("N", 1, MOST_FILES as i64),
         conflicts_with: &[],
     },
     Argument {
         name: "open",
         help: "How many files may be open at once, 1 to 65536; 1024, if not said",
-        kind: Kind::FromOneTo(MOST_OPEN as i64),
+        kind: Kind::Between("N", 1, MOST_OPEN as i64),
         conflicts_with: &[],
     },
     VERBOSE,
@@ -283,7 +296,7 @@ fn of_kind<'a>(arg: Arg<'a>, argument: &Argument) -> Arg<'a> {
         Kind::Positionals => positionals(arg),
         Kind::Flag(letter) => flag(arg, name, letter),
         Kind::Number => valued(arg, name, "N", number()),
-        Kind::FromOneTo(most) => valued(arg, name, "N", from_one_to(most)),
+        Kind::Between(value, least, most) => valued(arg, name, value, between(least, most)),
         Kind::Text(value) => valued(arg, name, value, ValueParser::NonEmptyString),
         Kind::OneOf(words) => valued(arg, name, "WORD", ValueParser::from(words)),
     }
@@ -310,8 +323,8 @@ fn number() -> ValueParser<'static> {
     ValueParser::from(clap::value_parser!(u32))
 }
 
-fn from_one_to(most: i64) -> ValueParser<'static> {
-    ValueParser::from(clap::value_parser!(u32).range(1..=most))
+fn between(least: i64, most: i64) -> ValueParser<'static> {
+    ValueParser::from(clap::value_parser!(u32).range(least..=most))
 }
 
 fn valued<'a>(

@@ -1,16 +1,18 @@
 //! What a command line asks for, read by `clap`.
 
-ghost use Rattle.std.specs.Prelude.{◌≡◌, ◌↔◌, ◌≤◌, ◌<◌, ◌^◌, ◌++◌, ℕ, List, None, Some, IfErr, IfOk, OnOk, codes, map};
-ghost use Rattle.std.specs.Prelude.{option_map};
+ghost use Rattle.std.specs.Prelude.{◌≡◌, ◌≢◌, ◌↔◌, ◌≤◌, ◌<◌, ◌^◌, ◌++◌, ℕ, List, None, Some, IfErr, IfOk, OnOk};
+ghost use Rattle.std.specs.Prelude.{codes, map, option_map};
 ghost use Rattle.std.specs.String.{string_bytes};
 ghost use Rattle.clap.specs.Matches.{found_of, one_text};
 ghost use Rattle.clap.specs.Words.{first_value};
-ghost use Rattle.lockd_cli.specs.Inside.{Ask, AsksFor, AsksMore, IsNotForResume, IsNotForTrace, Misfits, MisfitsTrace};
-ghost use Rattle.lockd_cli.specs.Inside.{SayOwnRules, SayRules, SaysNoFull, SaysTrace, SaysWhenFull, SaysWhenStuck, Spells};
-ghost use Rattle.lockd_cli.specs.Inside.{pieces_said, socket_said, word_of};
+ghost use Rattle.lockd_cli.specs.Inside.{Ask, AsksFor, AsksMore, IsNotForResume, IsNotForTrace, Misfits, MisfitsPieces};
+ghost use Rattle.lockd_cli.specs.Inside.{MisfitsTrace, SayOwnRules, SayRules, SaysNoFull, SaysTrace, SaysWhenFull};
+ghost use Rattle.lockd_cli.specs.Inside.{SaysWhenStuck, Spells, pieces_said, socket_said, word_of};
 ghost use Rattle.lockd_cli.specs.Numbers.{HasWorkers};
 
 use crate::command::lockd;
+use crate::rotation::Rotation;
+use crate::rotation_options::{refuse_pieces, rotation_of};
 use crate::said_rules::SaidRules;
 use crate::usage_error::UsageError;
 use clap::ArgMatches;
@@ -84,6 +86,8 @@ pub enum Asked {
         file: String,
         /// What becomes of the session while the file can't be written.
         when_stuck: WhenStuck,
+        /// When it goes on in a new piece, and how many stay; never, if that isn't said.
+        rotation: Option<Rotation>,
         /// The rules by which orders are answered, and the trace was made.
         rules: Rules,
     },
@@ -198,7 +202,7 @@ fn said_rules_of(options: &ArgMatches<'_>) -> SaidRules
 }
 
 // The number that is said for an option.
-fn number_of(options: &ArgMatches<'_>, name: &str) -> Option<u32>
+pub(crate) fn number_of(options: &ArgMatches<'_>, name: &str) -> Option<u32>
     ensures none { one_text (found_of options.now) name.now ≡ None → result ≡ None }
     ensures some { (text : List ℕ) (n : ℕ) → one_text (found_of options.now) name.now ≡ Some text
         → Spells text n → n < 2 ^ 32 → result ≡ Some n }
@@ -283,6 +287,7 @@ fn serve_of(alloc: Global, options: &ArgMatches<'_>) -> Result<Asked, UsageError
     ensures serve { IfOk result (λ asked. word_of asked ≡ codes "serve") }
     ensures said { IfOk result (Ask (found_of options.now)) }
     ensures refused { IfErr result (λ error. error ≡ UsageError.TraceFull → Misfits (found_of options.now)) }
+    ensures pieces { IfErr result (λ error. error ≡ UsageError.Rotate → MisfitsPieces (found_of options.now)) }
 {
     match options.get_str("resume") {
         Some(file) => resume_of(alloc, options, file),
@@ -297,14 +302,17 @@ fn resume_of(alloc: Global, options: &ArgMatches<'_>, file: &str) -> Result<Aske
     ensures serve { IfOk result (λ asked. word_of asked ≡ codes "serve") }
     ensures said { IfOk result (Ask (found_of options.now)) }
     ensures refused { IfErr result (λ error. error ≡ UsageError.TraceFull → Misfits (found_of options.now)) }
+    ensures pieces { IfErr result (λ error. error ≡ UsageError.Rotate → MisfitsPieces (found_of options.now)) }
 {
     let when_stuck = when_stuck_of(options)?;
+    let rotation = rotation_of(options)?;
     let socket = socket_of(alloc, options)?;
     let file = String::from_str(alloc, file)?;
     Ok(Asked::Resume {
         socket,
         file,
         when_stuck,
+        rotation,
         rules: rules_of(options),
     })
 }
@@ -316,7 +324,9 @@ fn begin_of(alloc: Global, options: &ArgMatches<'_>) -> Result<Asked, UsageError
     ensures serve { IfOk result (λ asked. word_of asked ≡ codes "serve") }
     ensures said { IfOk result (Ask (found_of options.now)) }
     ensures refused { IfErr result (λ error. error ≡ UsageError.TraceFull → Misfits (found_of options.now)) }
+    ensures pieces { IfErr result (λ error. error ≡ UsageError.Rotate → MisfitsPieces (found_of options.now)) }
 {
+    refuse_pieces(options)?;
     let workers = workers_of(number_of(options, "workers"));
     let socket = socket_of(alloc, options)?;
     let trace = trace_of(alloc, options)?;
@@ -354,6 +364,7 @@ fn socket_of(alloc: Global, options: &ArgMatches<'_>) -> Result<String, UsageErr
 fn trace_of(alloc: Global, options: &ArgMatches<'_>) -> Result<Trace, UsageError>
     ensures said { IfOk result (SaysTrace (found_of options.now)) }
     ensures refused { IfErr result (λ error. error ≡ UsageError.TraceFull → MisfitsTrace (found_of options.now)) }
+    ensures others { IfErr result (λ error. error ≢ UsageError.Rotate) }
 {
     let Some(trace) = options.get_str("trace") else {
         return without_file(options, Trace::Printed);

@@ -43,7 +43,7 @@ impl SaidRules {
 }
 
 // The number that is said, and the other one if none is; at least one, and at most so many.
-fn said_over(said: Option<u32>, other: u32, most: u32) -> u32
+pub(crate) fn said_over(said: Option<u32>, other: u32, most: u32) -> u32
     requires other { (1 ≤ other) × (other ≤ most) }
     ensures other { said ≡ None → result ≡ other }
     ensures said { (n : ℕ) → said ≡ Some n → 1 ≤ n → n ≤ most → result ≡ n }

@@ -18,6 +18,8 @@ pub enum UsageError {
     TraceFull,
     #[error("error: '--trace-full refuse' takes two workers or more: while one waits to write, another refuses orders\n\nFor more information, try '--help'.\n")]
     OneWorker,
+    #[error("error: '--rotate' needs '--resume FILE', and '--keep' needs '--rotate BYTES'\n\nFor more information, try '--help'.\n")]
+    Rotate,
     #[error("{0}")]
     CommandLine(clap::Error),
 }

@@ -6,5 +6,5 @@ use Rattle.lockd_cli.proofs.options.begin_of.Goals as goal
 
 pub returns-in_err-trace-clause-refused : goal.returns-in_err-trace-clause-refused
 returns-in_err-trace-clause-refused c =
-    passed_on c.from_residual-in_err-trace.result _ (Misfits (found_of c.args.options.now)) c.from_residual-in_err-trace.ensures.1
+    passed_on c.from_residual-in_err-trace.result _ _ (Misfits (found_of c.args.options.now)) c.from_residual-in_err-trace.ensures.1
     (λ full. inr (c.requires, c.in_err-trace.ensures.refused full))
