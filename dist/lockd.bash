@@ -29,6 +29,11 @@ _lockd() {
         words='1 1024 65536'
     elif [ "$before" = --trace-full ]; then
         words='go-on refuse wait end'
+    elif [ "$before" = --rotate ]; then
+        # 16, 64 and 256 MB.
+        words='16777216 67108864 268435456'
+    elif [ "$before" = --keep ]; then
+        words='2'
     elif [ "$before" = --trace ]; then
         words='none'
     elif [ "$before" = --resume ]; then
@@ -41,7 +46,7 @@ _lockd() {
     else
         case $command in
             help) words='script check locks state bytes serve drive' ;;
-            serve) words="--workers --trace --resume --trace-full $rules --help" ;;
+            serve) words="--workers --trace --resume --rotate --keep --trace-full $rules --help" ;;
             check) words="--quiet --cut $rules --help" ;;
             locks) words="--at --file --json $rules --help" ;;
             script | bytes | state) words="$rules --help" ;;

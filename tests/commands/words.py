@@ -19,8 +19,9 @@ NOWHERE = "/nowhere/at/all"
 LONG = "x" * 5_000
 TOO_LONG_FOR_A_SOCKET = "/tmp/" + "x" * 103
 CREATED = b"ask 0 1 1 0 0 0 create 0 420 61\n"
-OPTIONS = {"--workers": "2", "--trace": "none", "--resume": NOWHERE, "--trace-full": "refuse"}
+OPTIONS = {"--workers": "2", "--trace": "none", "--resume": NOWHERE, "--rotate": "1", "--keep": "2", "--trace-full": "refuse"}
 MISFIT = "error: '--trace-full' takes go-on or refuse with '--trace FILE', and wait or end with '--resume FILE'\n\nFor more information, try '--help'.\n"
+ALONE = "error: '--rotate' needs '--resume FILE', and '--keep' needs '--rotate BYTES'\n\nFor more information, try '--help'.\n"
 RULES = {"--fair": [], "--runs": ["1"], "--parked": ["1"], "--files": ["1"], "--open": ["1"]}
 RULED = {(): [], ("script",): [], ("bytes",): [], ("check",): [], ("locks",): [], ("serve",): [NOWHERE]}
 
@@ -106,6 +107,26 @@ def try_words_of_a_full_file():
     lines = [(word in words, ["serve", NOWHERE, *to, "--trace-full", word]) for to, words in taken for word in new + goes_on]
     are_refused(*(line for fits, line in lines if fits), by="cannot trace\n")
     return are_refused(*(line for fits, line in lines if not fits), by=MISFIT)
+
+
+def try_options_of_pieces():
+    """`--rotate` is refused without `--resume`, and `--keep` without `--rotate`, in each order and whatever else is said."""
+    resume, rotate, keep = ["--resume", NOWHERE], ["--rotate", "1"], ["--keep", "2"]
+    others = [], ["--workers", "2"], ["--trace", "none"], ["--trace", NOWHERE, "--trace-full", "refuse"]
+    taken = resume + rotate, rotate + resume, keep + rotate + resume, [*resume, *rotate, *keep, "--trace-full", "end"]
+    are_refused(*(["serve", NOWHERE, *it] for it in taken), by="cannot trace\n")
+    lines = [[*it, *other] for it in (rotate, keep, rotate + keep, keep + rotate) for other in others]
+    lines += [resume + keep, keep + resume, [*keep, *resume, "--trace-full", "end"]]
+    return are_refused(*(["serve", NOWHERE, *it] for it in lines), by=ALONE)
+
+
+def try_numbers_of_pieces():
+    """The least and the greatest are taken, and no other text."""
+    bad = "", "-1", "0", "1.5", "0x1", " 1", "1 ", "1K", "4294967296", "18446744073709551617", "9" * 400, "one"
+    for option, least in ("--rotate", 1), ("--keep", 2):
+        words = ["serve", NOWHERE, "--resume", NOWHERE, *(["--rotate", "1"] if option == "--keep" else []), option]
+        are_refused(*([*words, it] for it in (*bad, str(least - 1))))
+        are_refused(*([*words, str(it)] for it in (least, 4_294_967_295)), by="cannot trace\n")
 
 
 def try_options_of_no_other_command():
