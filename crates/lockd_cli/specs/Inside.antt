@@ -134,8 +134,8 @@ Misfits found =
 abbrev pub SaysNoPieces : Found → Type 0
 SaysNoPieces found = (first_value found (codes "rotate") ≡ None) × (first_value found (codes "keep") ≡ None)
 
--- A new piece is due at the bytes that `--rotate` says, and so many stay as `--keep` says. Without a rotation nothing is
--- said of pieces.
+-- A new piece is due at the bytes that `--rotate` says, and so many stay as `--keep` says. Without a rotation nothing
+-- is said of pieces.
 abbrev pub SaysRotation : Found → Option Rotation → Type 0
 SaysRotation found None = SaysNoPieces found
 SaysRotation found (Some rotation) =

@@ -1,12 +1,12 @@
 //! The command line of `lockd`: which command its words ask for, or why none is run.
 //!
-//! A server has 1 to 16 workers (`workers`), and `Rules` and `Rotation` keep the other limits in their types. A private
-//! contract, `asked_by`, says what is asked for by the command and the texts that `clap` found: the socket, the workers,
-//! the trace, the file of `--resume`, `--rotate`, `--keep`, `--trace-full`, `--quiet`, `--cut` and the rules.
-//! `is_verbose` says the same of `--verbose`. `serve_of` says when the word of `--trace-full` doesn't fit the trace, and
-//! when `--rotate` and `--keep` lack the option that they need. `read_words` repeats none of them. `clap` doesn't state
-//! which words it takes for which text, if options and commands exclude each other, as they do here. Contracts let
-//! through:
+//! A server has 1 to 16 workers (`workers`), and `Rules` and `Rotation` keep the other limits in their types. A
+//! private contract, `asked_by`, says what is asked for by the command and the texts that `clap` found: the socket, the
+//! workers, the trace, the file of `--resume`, `--rotate`, `--keep`, `--trace-full`, `--quiet`, `--cut` and the rules.
+//! `is_verbose` says the same of `--verbose`. `serve_of` says when the word of `--trace-full` doesn't fit the trace,
+//! and when `--rotate` and `--keep` lack the option that they need. `read_words` repeats none of them. `clap` doesn't
+//! state which words it takes for which text, if options and commands exclude each other, as they do here. Contracts
+//! let through:
 //! - a `print_version` that always fails, and another version;
 //! - a `read_words` that refuses everything, or doesn't ask `line_of`;
 //! - a `command` with an option that has another name, another range, another default, or none of them;

@@ -1,12 +1,12 @@
 //! When the trace of a server goes on in a new piece, and how many pieces stay.
 
-ghost use Rattle.std.specs.Option.{ForSome};
 ghost use Rattle.std.specs.Prelude.{◌≤◌};
+ghost use Rattle.std.specs.Option.{ForSome};
 
 /// When the trace of a server goes on in a new piece, and how many pieces stay.
 #[derive(Clone, Copy)]
 pub struct Rotation {
-    /// `--rotate`: the last piece has so many bytes or more, 1 to 4,294,967,295.
+    /// `--rotate`: a new piece is due once the last one has so many bytes, 1 to 4,294,967,295.
     pub bytes: u32,
     /// `--keep`: how many pieces stay, the last among them, 2 to 4,294,967,295; all, if that isn't said.
     pub keep: Option<u32>,

@@ -12,7 +12,7 @@ use crate::said_rules::said_over;
 use crate::usage_error::UsageError;
 use clap::ArgMatches;
 
-/// The fewest pieces that stay: messages that are sent again after a restart may be answered in the one before the last.
+/// The fewest pieces that stay: messages that are sent again after a restart may be answered in the last but one.
 pub(crate) const LEAST_KEPT: u32 = 2;
 
 // What the options say of pieces, if they name a file to go on in.
@@ -26,7 +26,7 @@ pub(crate) fn rotation_of(options: &ArgMatches<'_>) -> Result<Option<Rotation>, 
     }
 }
 
-// No rotation, if the options don't say how many pieces stay: they say of none when it is begun.
+// No rotation. To say how many pieces stay is refused, since no new one begins.
 fn without_keep(options: &ArgMatches<'_>) -> Result<Option<Rotation>, UsageError>
     requires { first_value (found_of options.now) (codes "rotate") ≡ None }
     ensures said { IfOk result (SaysRotation (found_of options.now)) }
@@ -38,7 +38,7 @@ fn without_keep(options: &ArgMatches<'_>) -> Result<Option<Rotation>, UsageError
     }
 }
 
-// What the options say of pieces, if they say when one is begun. `clap` lets no number through that is out of its
+// What the options say of pieces, if they say when a new one is due. `clap` lets no number through that is out of its
 // range; such a one would become the nearest that isn't.
 fn said_rotation(options: &ArgMatches<'_>) -> Rotation
     ensures bytes { IsDueAt (one_text (found_of options.now) (codes "rotate")) result.bytes }
