@@ -63,7 +63,7 @@ complete -o default -F _lockd lockd
 _lockd_mount() {
     local word before
     _lockd_words
-    local words='--workers --trace --resume --trace-full --times --fair --runs --parked --files --open --no-check --allow-other --mode --uid --gid --discard-writes --source --nonempty --grace --count --help --version'
+    local words='--workers --trace --resume --rotate --keep --trace-full --times --fair --runs --parked --files --open --no-check --allow-other --mode --uid --gid --discard-writes --source --nonempty --grace --count --help --version'
     case $before in
         --workers) mapfile -t COMPREPLY < <(compgen -W "$(seq 16)" -- "$word") ;;
         --runs) mapfile -t COMPREPLY < <(compgen -W '1 4096 65536' -- "$word") ;;
@@ -73,6 +73,8 @@ _lockd_mount() {
         --trace) mapfile -t COMPREPLY < <(compgen -W 'none' -f -- "$word") ;;
         --trace-full) mapfile -t COMPREPLY < <(compgen -W 'go-on wait end' -- "$word") ;;
         --resume | --times) mapfile -t COMPREPLY < <(compgen -f -- "$word") ;;
+        --rotate) mapfile -t COMPREPLY < <(compgen -W '16M 64M 256M' -- "$word") ;;
+        --keep) mapfile -t COMPREPLY < <(compgen -W '2' -- "$word") ;;
         --mode) mapfile -t COMPREPLY < <(compgen -W '0755 1777' -- "$word") ;;
         --uid | --gid | --grace | --source) COMPREPLY=() ;;
         *)

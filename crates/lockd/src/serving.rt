@@ -5,12 +5,12 @@ ghost use Rattle.std.specs.Io.KnownBytes.{Keeps};
 ghost use Rattle.lockd.specs.Inside.{AsksFile, AsksRefusal, GoesWhere};
 ghost use Rattle.lockd_resume.specs.Ending.{Ends};
 
-use lockd_cli::{Trace, WhenFull, WhenStuck};
+use lockd_cli::{SaidRules, Trace, WhenFull, WhenStuck};
 use lockd_commands::{CommandFault, Noting, Rules, Status};
 use lockd_serve::{
     Announcing, Observer, Resuming, Rotation, ServeOptions, TraceTo, Untraced, WhenUnwritten,
-    WhenWriterFails, end_traced_to, end_unopened, file_to_go_on_in, is_unused, new_file,
-    remove_if_at, resume_on, serve_on,
+    WhenWriterFails, end_traced_to, end_unopened, file_to_go_on_in, head_rules, is_unused,
+    new_file, remove_if_at, resume_on, serve_on,
 };
 use lockd_stdio::{Host, ServerWords, hold_closed_streams};
 use std::fs::{File, Files};
@@ -84,16 +84,19 @@ fn serve_opened<T: Threads + Wait + Net + Files + Sync>(
 }
 
 /// `lockd serve --resume`.
-pub(crate) fn resume(host: Host<'_>, socket: &str, how: Resuming<'_>, rules: Rules) -> Status {
+pub(crate) fn resume(host: Host<'_>, socket: &str, how: Resuming<'_>, said: SaidRules) -> Status {
     let rt = host.rt;
     hold_closed_streams(rt);
-    let mut words = server_words(host, socket, how.name, rules);
-    let trace = match file_to_go_on_in(rt, how.name) {
+    let standard = Rules::standard();
+    let mut trace = match file_to_go_on_in(rt, how.name) {
         Ok(trace) => trace,
         Err(why) => {
+            let mut words = server_words(host, socket, how.name, said.over(standard));
             return end_unopened(&mut rt.stderr(), &mut words, Untraced::Unopened(why));
         }
     };
+    let rules = said.over(head_rules(&mut trace).unwrap_or(standard));
+    let mut words = server_words(host, socket, how.name, rules);
     resume_opened(rt, socket, rules, trace, how, &mut words)
 }
 

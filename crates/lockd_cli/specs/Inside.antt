@@ -174,7 +174,7 @@ Ask found (asked.Serve socket workers trace rules) =
     × SaysTrace found trace × SayRules found rules × (first_value found (codes "resume") ≡ None) × SaysNoPieces found
 Ask found (asked.Resume socket file stuck rotation rules) =
     (string_bytes socket ≡ socket_said found) × (first_value found (codes "resume") ≡ Some (string_bytes file))
-    × SaysWhenStuck found stuck × SaysRotation found rotation × SayRules found rules
+    × SaysWhenStuck found stuck × SaysRotation found rotation × SayOwnRules found rules
 Ask found (asked.Drive socket) = string_bytes socket ≡ socket_said found
 Ask found asked.Version = ⊥
 

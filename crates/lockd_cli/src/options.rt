@@ -88,8 +88,9 @@ pub enum Asked {
         when_stuck: WhenStuck,
         /// When it goes on in a new piece, and how many stay; never, if that isn't said.
         rotation: Option<Rotation>,
-        /// The rules by which orders are answered, and the trace was made.
-        rules: Rules,
+        /// What is said of the rules by which orders are answered. Other ones than those of the file's head begin a new
+        /// piece of the trace.
+        rules: SaidRules,
     },
     /// Sends messages to the socket at this path and prints its replies.
     Drive(String),
@@ -313,7 +314,7 @@ fn resume_of(alloc: Global, options: &ArgMatches<'_>, file: &str) -> Result<Aske
         file,
         when_stuck,
         rotation,
-        rules: rules_of(options),
+        rules: said_rules_of(options),
     })
 }
 

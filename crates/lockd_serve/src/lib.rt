@@ -26,7 +26,7 @@ mod serving;
 mod unused;
 
 pub use fl_stream::WhenWriterFails;
-pub use lockd_resume::{HangUp, Resuming, end_unopened, resume_on};
+pub use lockd_resume::{HangUp, Resuming, end_unopened, head_rules, resume_on};
 pub use lockd_streams::{
     Announcing, Observer, Parting, Rotation, Untraced, WhenUnwritten, end_traced_to,
     file_to_go_on_in, new_file, remove_if_at,
