@@ -1,6 +1,7 @@
 //! A trace that goes on by other rules than before: its next piece tells what is there by these.
 
-ghost use Rattle.std.specs.Prelude.{◌≡◌, IfErr};
+ghost use Rattle.std.specs.Prelude.{◌≡◌, IfErr, IfOk, None, Ok};
+ghost use Rattle.fl_desk.specs.Heads.{head_lines, IsHead};
 ghost use Rattle.fl_desk.specs.Kept.{IsKept};
 ghost use Rattle.fl_history.specs.Place.{place_of};
 ghost use Rattle.lockd_resume.specs.Inside.{ComesBefore};
@@ -23,8 +24,8 @@ use std::alloc::Global;
 use std::fs::File;
 use std::io::{Seek, SeekFrom, Write};
 
-// No head has so many lines.
-const MOST_LINES: usize = 1 << 40;
+// No head has so many parts.
+const MOST_PARTS: usize = 1 << 40;
 
 /// The rules that the head of a trace's file names, if it has one that can be read. The file is read from its beginning
 /// then.
@@ -105,6 +106,7 @@ fn turning(how: Resuming<'_>) -> Resuming<'_> {
 // The head that tells by these rules what is there at a point, if it fits them.
 fn told_under(alloc: Global, rules: Rules, point: &ResumePoint) -> Result<ToldHead, Unready>
     requires { IsKept (lines_at point.now) point.now.resumed.present }
+    ensures told { IfOk result (λ it. IsHead rules (head_lines it.head it.parts.items)) }
     ensures before { IfErr result ComesBefore }
 {
     let missing = point.resumed.missing.as_slice().len() as u64;
@@ -128,24 +130,31 @@ fn told_under(alloc: Global, rules: Rules, point: &ResumePoint) -> Result<ToldHe
     }
 }
 
-// The first part of a head that doesn't fit these rules, if one doesn't.
+// The first part of a head that doesn't fit these rules; none, if all do, and it can be told under them.
 fn first_misfit(
     alloc: Global,
     rules: Rules,
     head: &Head,
     parts: &[StatePart],
-) -> Result<Option<Misfit>, NoMemory> {
+) -> Result<Option<Misfit>, NoMemory>
+    ensures { result ≡ Ok None → IsHead rules (head_lines head.now parts.now) }
+{
+    if parts.len() >= MOST_PARTS {
+        return Err(NoMemory);
+    }
     let mut judge = Judge::new(alloc, rules)?;
     judge.hear(&Line::State(StateLine::Head(*head)));
     for part in parts {
-        if judge.heard() < MOST_LINES {
-            judge.hear(&Line::State(StateLine::Part(*part)));
-        }
+        judge.hear(&Line::State(StateLine::Part(*part)));
         if !judge.begins() {
             return Ok(Some(misfit_of(part)));
         }
     }
-    Ok(None)
+    judge.hear(&Line::State(StateLine::Go));
+    match judge.told() {
+        Some(_) => Ok(None),
+        None => Ok(Some(Misfit::Parked)),
+    }
 }
 
 // What doesn't fit, if this part doesn't.

@@ -170,7 +170,7 @@ pub(crate) fn made_ready<'a, N: Write + Copy + Drop>(
     if let Some(why) = untakable(rt, file, how.name) {
         return Err(Unready::Untraced(why));
     }
-    let Before { last, piece, under } = piece_before(rt, file, how.name, rules)?;
+    let Before { last, piece, under } = piece_before(rt, file, how, rules)?;
     let pieces = next_pieces(rt, alloc, file, how, last, notices)?;
     let point = match resumed_from(alloc, rules, under, piece, file, details) {
         Ok(point) => point,
@@ -195,15 +195,24 @@ struct Before {
     under: Rules,
 }
 
-// What stands before this file, whose rules are these: those of a piece that names none, too.
-fn piece_before(rt: &HostRuntime, file: &File, name: &str, rules: Rules) -> Result<Before, Unready>
+// What stands before this file, whose rules are these: those of a piece that names none, too. If no pieces come behind
+// it, a folder that can't be listed has none.
+fn piece_before(
+    rt: &HostRuntime,
+    file: &File,
+    how: Resuming<'_>,
+    rules: Rules,
+) -> Result<Before, Unready>
     ensures before { IfErr result ComesBefore }
 {
-    let last = match last_piece(rt, name, file) {
+    let last = match last_piece(rt, how.name, file) {
         Ok(last) => last,
-        Err(why) => return Err(unlisted(why)),
+        Err(why) if how.rotation.is_some() || why.kind() == ErrorKind::OutOfMemory => {
+            return Err(unlisted(why));
+        }
+        Err(_) => 0,
     };
-    let mut piece = match open_piece(rt, name, last) {
+    let mut piece = match open_piece(rt, how.name, last) {
         Ok(piece) => piece,
         Err(_) => return Err(Unready::Fault(CommandFault::NoMemory)),
     };

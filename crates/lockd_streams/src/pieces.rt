@@ -15,6 +15,8 @@ use std::{fs, io};
 // A dot and a number of 64 bits have so many bytes at most.
 const NUMBER_ROOM: usize = 21;
 
+const GONE: &str = "the file was removed or replaced";
+
 // How many names that others took are passed by, before a piece gets none.
 const MOST_TAKEN: u64 = 1000;
 
@@ -106,7 +108,7 @@ impl<'a, N: Write + Copy> FilePieces<'a, N> {
     // was killed in just this moment, that is it.
     fn number_here(&mut self) -> io::Result<u64> {
         if !is_at(self.rt, Path::new(self.name), &self.here) {
-            return Err(io::Error::from(ErrorKind::NotFound));
+            return Err(io::Error::new(ErrorKind::NotFound, GONE));
         }
         for taken in 0..MOST_TAKEN {
             let number = self.last.saturating_add(1).saturating_add(taken);
