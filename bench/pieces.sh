@@ -3,8 +3,9 @@
 # - Pairs of SETLK and unlock a second with `--rotate 16777216`, to those without `--rotate`, with 64 messages and with 1 under way. Runs take
 #   turns, five times, and the best of each counts.
 # - How long a turn holds up orders: from the connection to the first reply of a server whose FILE is due, less the same of one without
-#   `--rotate`, in milliseconds, and to what `lockd state` takes to print that head. The state is as great as the standard rules allow, or has
-#   65,536 files, open files and locks. FILE is in memory (/dev/shm), where fdatasync is free, and on the disk. Medians of nine runs in turn.
+#   `--rotate`, in milliseconds, and to what Python takes to write that head to a file and to force it to the disk. The state is as great as the
+#   standard rules allow, or has 65,536 files, open files and locks. FILE is in memory (/dev/shm), where fdatasync is free, and on the disk.
+#   Medians of nine runs in turn.
 # - How long a restart takes, to `lockd check` of FILE: where FILE has 64 MB, and where it has little, so that the piece before of 64 MB is read.
 # - What `lockd check PIECE..` takes of so many orders (1,000,000 without an argument) in pieces of `--rotate 1`, to `lockd check` of one trace.
 #
@@ -107,27 +108,33 @@ def full(files, opens, runs, waiting):
     return b"".join(messages) + b"".join(fuse.getattr_(it, 2) for it in more)
 
 
+def write_out(path, text):
+    """Seconds that it takes to write a new file, up to its place on the disk."""
+    begun = time.perf_counter()
+    with open(path, "wb") as it:
+        it.write(text)
+        it.flush()
+        os.fdatasync(it.fileno())
+    return time.perf_counter() - begun
+
+
 def turn(label, folder, text, *limits):
     """A turn behind this trace."""
     file = f"{folder}/turned"
-    found, printed = [], []
+    found, written = {(): [], ("--rotate", "1"): []}, []
     for _ in range(RESTARTS):
-        for options in (), ("--rotate", "1"):
-            with open(file, "wb") as it:
-                it.write(text)
-                os.fsync(it.fileno())
-            found.append(served(file, *options, *limits)[1])
+        for options, times in found.items():
+            write_out(file, text)
+            times.append(served(file, *options, *limits)[1])
             assert len(pieces(file)) == 1 + bool(options)
-            if options:
-                with open(file, "rb") as it:
-                    head = it.read()
-            else:
-                printed.append(seconds("state", *limits, input=file))
+            with open(file, "rb") as it:
+                head = it.read()
             remove(file)
-    without, turned = statistics.median(found[0::2]), statistics.median(found[1::2])
-    head_lines = head.count(b"\n")
-    print(f"a turn, {label}: {head_lines} lines, {len(head) / 1e6:.2f} MB, {1e3 * (turned - without):.1f} ms, longest {1e3 * max(found[1::2]):.1f} ms, "
-          f"ratio {(turned - without) / statistics.median(printed):.3f} (to lockd state)", flush=True)
+        written.append(write_out(file, head))
+        os.remove(file)
+    without, turned = map(statistics.median, found.values())
+    print(f"a turn, {label}: a head of {head.count(bytes([10]))} lines, {len(head) / 1e6:.2f} MB, {1e3 * (turned - without):.1f} ms, "
+          f"ratio {(turned - without) / statistics.median(written):.2f} (to a file of as many bytes)", flush=True)
 
 
 def turns():
@@ -146,8 +153,6 @@ def restarts():
     measured(file, 2_300_000, 64, "--rotate", str(MOST))
     *_, before, last = pieces(file)
     assert before != last and os.path.getsize(before) >= MOST, pieces(file)
-    with open(f"{file}.grown", "ab") as it, open(before, "rb") as text:
-        shutil.copyfileobj(text, it)
     grown, short = f"{WORK}/grown", f"{WORK}/short"
     # FILE of 64 MB is the piece before by another name: its own piece before isn't read.
     shutil.copy(before, grown)

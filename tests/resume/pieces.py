@@ -10,7 +10,6 @@ import itertools
 import os
 import random
 import re
-import subprocess
 import sys
 import tempfile
 
@@ -21,7 +20,7 @@ from tests.resume.kit import FEW, KILLED, LINES, WORKED, Client, goes_on
 from tests.resume.long import (FIRST, LEAST, ORDERS, behind_head, exchange, head_at, is_row, long, names_of, order_at, paths_of, piece, read, replies_to,
                                sending, snapshot, state_of, text_of)
 from tests.fuse import sent_again, unique_of
-from tests.tries import INIT, INIT_REPLY, PATIENCE, Server, each, run, take
+from tests.tries import INIT, INIT_REPLY, Server, each, run, take
 
 DEATHS = int(os.environ.get("DEATHS", "8"))
 ROTATE = "--rotate", "1"
@@ -179,6 +178,42 @@ def try_a_new_piece_that_was_left():
         assert read(f"{server.file}.new") == text
 
 
+def try_paths_of_a_file_in_pieces():
+    """FILE is named from the folder at hand, by a name with dots, or by a link."""
+    at, end = after(2), after(2) + 100
+    for name in "trace", "./trace", "beside/../trace", "beside/link", "tr.1.ace":
+        server = at_rest(pieces_of(1), piece(after(1), at), *ROTATE)
+        folder = server.folder.name
+        os.mkdir(f"{folder}/beside")
+        os.symlink("../trace", f"{folder}/beside/link")
+        if name == "tr.1.ace":
+            for it in "trace", "trace.1":
+                os.rename(f"{folder}/{it}", f"{folder}/{it.replace('trace', name)}")
+        server.words[server.words.index(server.file)] = name
+        for begin, more in (at, 10), (at + 10, end - at - 10):
+            server.start(before=lambda folder=folder: os.chdir(folder))
+            serves(server, begin, begin + more)
+        server.file = f"{folder}/{name}"
+        paths = paths_of(server)
+        # A link is not followed: the next piece takes its place.
+        assert names_of(server) == ([1, ""] if "link" in name else [1, 2, ""]), (name, names_of(server))
+        assert read(paths[-2]) == piece(after(1), at) and behind_head(read(paths[-1])) == text_of(at, end), name
+
+
+def try_a_name_with_no_room_behind_it():
+    """No file can be named FILE.new. So there is no new piece, which is told."""
+    server = at_rest({}, piece(0, after(1)), *ROTATE)
+    name = f"{server.folder.name}/{'x' * 252}"
+    os.rename(server.file, name)
+    server.words[server.words.index(server.file)] = server.file = name
+    server.start()
+    with meet(server) as client:
+        ask(client, after(1), after(1) + 50)
+    printed, told, status = server.ended()
+    assert (printed, status) == (b"", 0) and re.fullmatch(no_new_piece(server), told), told
+    assert names_of(server) == [""] and read(name) == piece(0, after(1) + 50)
+
+
 def try_no_other_server_takes_a_new_piece():
     """While its server lives. The piece before is nobody's."""
     server = due(*ROTATE)
@@ -287,11 +322,14 @@ def try_the_last_lines_at_a_seam():
 
 def refused(server, status=2, told="cannot trace\n"):
     """Nobody is served, and each file is as it was. With `-v` a line says of which piece that is."""
+    words, before = server.words, snapshot(server)
     for more in [], ["-v"]:
-        before = snapshot(server)
-        ran = subprocess.run([*server.words, *more], capture_output=True, timeout=PATIENCE)
-        said = ran.stderr.decode()
-        assert (ran.stdout, ran.returncode) == (b"", status), ran
+        server.words = [*words, *more]
+        server.start()
+        server.listens()
+        assert server.serving.poll() is not None, "it serves"
+        printed, said, ended = server.ended()
+        assert (printed, ended) == (b"", status), (printed, said, ended)
         assert said == told if not more else re.fullmatch(re.escape(told) + r"(.+\n)+", said) and server.file in said, said
         assert snapshot(server) == before
 
@@ -434,8 +472,11 @@ def try_a_file_cut_behind_its_head():
     for end in 3, 40, head.index(b"\n") + 1, len(head) // 2, len(head) - 3, len(head) - 1:
         server = at_rest({1: first}, head[:end])
         before = snapshot(server)
-        ran = subprocess.run(server.words, capture_output=True, timeout=PATIENCE)
-        assert (ran.stdout, ran.returncode) == (b"", 2) and re.fullmatch(rb"(differs|bad line) \d+\n|cannot trace\n", ran.stderr), (end, ran)
+        server.start()
+        server.listens()
+        assert server.serving.poll() is not None, "it serves"
+        ended = server.ended()
+        assert ended[::2] == (b"", 2) and re.fullmatch(r"(differs|bad line) \d+\n|cannot trace\n", ended[1]), (end, ended)
         assert snapshot(server) == before
 
 
