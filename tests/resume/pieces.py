@@ -20,7 +20,7 @@ from tests.resume.kit import FEW, KILLED, LINES, WORKED, Client, goes_on
 from tests.resume.long import (FIRST, LEAST, ORDERS, behind_head, exchange, head_at, is_row, long, names_of, order_at, paths_of, piece, read, replies_to,
                                sending, snapshot, state_of, text_of)
 from tests.fuse import sent_again, unique_of
-from tests.tries import INIT, INIT_REPLY, Server, each, run, take
+from tests.tries import INIT, INIT_REPLY, Server, each, run, take, wait_until
 
 DEATHS = int(os.environ.get("DEATHS", "8"))
 ROTATE = "--rotate", "1"
@@ -60,20 +60,29 @@ def serves(server, begin, end):
     assert came == INIT_REPLY + b"".join(replies_to(begin, end)), "other replies"
 
 
-def meet(server):
-    """A client whose session has begun."""
-    client = server.connect()
-    client.sendall(INIT)
-    assert take(client, len(INIT_REPLY)) == INIT_REPLY
-    return client
+class Asking:
+    """A client whose session has begun, until its block ends."""
 
+    def __init__(self, server):
+        self.server, self.socket = server, server.connect()
+        self.socket.sendall(INIT)
+        assert take(self.socket, len(INIT_REPLY)) == INIT_REPLY
 
-def ask(client, begin, end, again=False):
-    """Asks for these orders. The replies that come are those to them alone, in their order."""
-    expected = b"".join(replies_to(begin, end))
-    with sending(client, sent(begin, end, again)):
-        found = take(client, len(expected))
-    assert found == expected, (len(found), len(expected))
+    def __enter__(self):
+        return self
+
+    def __exit__(self, *_):
+        self.socket.close()
+
+    def ask(self, begin, end):
+        """Asks for these orders. The replies that come are those to them alone, in their order. They are carried out then, also where none comes."""
+        expected = b"".join(replies_to(begin, end))
+        with sending(self.socket, sent(begin, end)):
+            found = take(self.socket, len(expected))
+        assert found == expected, (len(found), len(expected))
+        last = long().lines[long().starts[end - 1]]
+        if os.path.exists(self.server.file):
+            wait_until(lambda: last in read(self.server.file)[-10_000:])
 
 
 # ---- turns
@@ -173,7 +182,8 @@ def try_a_new_piece_that_was_left():
         serves(server, at, at + 10)
         is_row(server, 0, at + 10)
         server = behind({"new": text}, piece(0, 100))
-        meet(server).close()
+        with Asking(server):
+            pass
         assert server.ended() == (b"", "", 0)
         assert read(f"{server.file}.new") == text
 
@@ -207,8 +217,8 @@ def try_a_name_with_no_room_behind_it():
     os.rename(server.file, name)
     server.words[server.words.index(server.file)] = server.file = name
     server.start()
-    with meet(server) as client:
-        ask(client, after(1), after(1) + 50)
+    with Asking(server) as client:
+        client.ask(after(1), after(1) + 50)
     printed, told, status = server.ended()
     assert (printed, status) == (b"", 0) and re.fullmatch(no_new_piece(server), told), told
     assert names_of(server) == [""] and read(name) == piece(0, after(1) + 50)
@@ -217,8 +227,8 @@ def try_a_name_with_no_room_behind_it():
 def try_no_other_server_takes_a_new_piece():
     """While its server lives. The piece before is nobody's."""
     server = due(*ROTATE)
-    with meet(server) as client:
-        ask(client, after(1), after(1) + 10)
+    with Asking(server) as client:
+        client.ask(after(1), after(1) + 10)
         assert names_of(server) == [1, ""]
         before = snapshot(server)
         other = run("serve", f"{server.path}.other", "--resume", server.file, *ROTATE)
@@ -232,10 +242,10 @@ def try_a_file_that_goes_behind_a_turn():
     """It was removed, or another has taken its place: told at the end, of the file that counts by then."""
     for take_away in os.remove, lambda it: os.rename(it, f"{it}.moved"):
         server = due(*ROTATE)
-        with meet(server) as client:
-            ask(client, after(1), after(1) + 10)
+        with Asking(server) as client:
+            client.ask(after(1), after(1) + 10)
             take_away(server.file)
-            ask(client, after(1) + 10, after(1) + 20)
+            client.ask(after(1) + 10, after(1) + 20)
         assert server.ended() == (b"", "trace failed\n", 2)
 
 
@@ -266,26 +276,26 @@ def try_exactly_once_at_a_seam():
     at = after(1)
     for options in ROTATE, ("--rotate", "1", "--keep", "2"), ():
         server = due(*ROTATE)
-        with meet(server) as client:
-            ask(client, at, at + 300)
+        with Asking(server) as client:
+            client.ask(at, at + 300)
             server.serving.kill()
         assert server.ended() == (b"", "", KILLED)
         restart(server, options)
-        with meet(server) as client:
+        with Asking(server) as client:
             texts = is_row(server, 0, at + 300)
             assert b"\nwait " in texts[1]
             begin, end = at - 2000, at + 300
-            client.sendall(sent(begin, end, again=True))
+            client.socket.sendall(sent(begin, end, again=True))
             # To a request that waited the reply comes at its message, and not again at the order that granted it.
             asked = {unique_of(it) for it in long().messages[begin:end]}
             expected = {unique_of(it): it for it in replies_to(begin, ORDERS) if unique_of(it) in asked}
             waits = waiting(end)
             count = sum(len(it) for unique, it in expected.items() if unique not in waits)
-            found = fuse.cut(take(client, count))[0]
+            found = fuse.cut(take(client.socket, count))[0]
             assert {unique_of(it): it for it in found} == {unique: it for unique, it in expected.items() if unique not in waits}
             assert len(found) == len({*map(unique_of, found)})
             assert is_row(server, 0, end) == texts
-            ask(client, end, end + 5000)
+            client.ask(end, end + 5000)
             assert waits - waiting(end + 5000), "none was granted"
         assert server.ended() == (b"", "", 0)
         is_row(server, 0, end + 5000)
@@ -309,14 +319,14 @@ def try_the_last_lines_at_a_seam():
     first, end = boundary()
     for older in pieces_of(2), {2: piece(first - 3000, after(2))}:
         server = behind(older, piece(after(2), end))
-        with meet(server) as client:
+        with Asking(server) as client:
             before = read(server.file)
-            client.sendall(sent(first, first + 1, again=True))
+            client.socket.sendall(sent(first, first + 1, again=True))
             mine, = replies_to(first, first + 1)
-            assert take(client, len(mine)) == mine
+            assert take(client.socket, len(mine)) == mine
             assert read(server.file) == before
-            client.sendall(sent(first - 1, first, again=True))
-            assert unique_of(take(client, 16)) == unique_of(long().messages[first - 1])
+            client.socket.sendall(sent(first - 1, first, again=True))
+            assert unique_of(take(client.socket, 16)) == unique_of(long().messages[first - 1])
             assert read(server.file).startswith(before + text_of(first - 1, first).splitlines(True)[0])
 
 
@@ -465,7 +475,8 @@ def try_a_file_cut_behind_its_head():
     begin = len(piece(at, order))
     for end in begin, begin + 5, whole.index(b"\n", begin) + 1, whole.index(b"\n", begin) + 4, len(whole) - 1:
         server = behind({1: first}, whole[:end])
-        meet(server).close()
+        with Asking(server):
+            pass
         assert server.ended() == (b"", "", 0)
         assert read(server.file) == (whole if end > whole.index(b"\n", begin) else piece(at, order)), end
     head = head_at(at)
@@ -689,18 +700,18 @@ def fails_once(kind, number, error, pieces=1):
     server = due("--rotate", str(GROWS), pieces=pieces, env=turning(notes=notes, most=3000, fails=[(kind, number, number, error)]))
     begin = after(pieces + 1)
     middle, end = orders_for(begin, GROWS - 500) - 1, orders_for(begin, GROWS) + 1
-    with meet(server) as client:
-        ask(client, begin, middle)
+    with Asking(server) as client:
+        client.ask(begin, middle)
         assert re.fullmatch(no_new_piece(server), told := server.tells()), told
         assert f"{kind} {-error}" in noted(notes), (kind, noted(notes))
         there = names_of(server)
         assert ".new" not in there and os.path.samefile(server.file, f"{server.file}.{there[-2]}") == (kind == "rename"), there
         turns = noted(notes).count("fdatasync 0")
-        ask(client, middle, end)
-        ask(client, end, end + 10)
+        client.ask(middle, end)
+        client.ask(end, end + 10)
         assert noted(notes).count("fdatasync 0") == turns + 1, (kind, noted(notes))
         assert names_of(server) == [*range(1, pieces + 2), ""], (kind, names_of(server))
-        ask(client, end + 10, end + 100)
+        client.ask(end + 10, end + 100)
     assert server.ended() == (b"", "", 0)
     is_row(server, 0, end + 100)
 
@@ -716,13 +727,13 @@ def try_a_failure_is_told_once():
     notes = new_notes()
     server = due(*ROTATE, env=turning(notes=notes, fails=[("link", 1, 3, errno.EPERM), ("link", 5, 5, errno.EPERM)]))
     at = after(1)
-    with meet(server) as client:
+    with Asking(server) as client:
         for it in range(at, at + 80, 10):
-            ask(client, it, it + 10)
+            client.ask(it, it + 10)
         assert names_of(server) == [1, ""]
-        ask(client, at + 80, after(2) + 500)
+        client.ask(at + 80, after(2) + 500)
         for it in range(after(2) + 500, after(2) + 580, 10):
-            ask(client, it, it + 10)
+            client.ask(it, it + 10)
     printed, told, status = server.ended()
     assert (printed, status) == (b"", 0) and re.fullmatch(no_new_piece(server) * 2, told), told
     assert [it for it in noted(notes) if it.startswith("link ")] == ["link -1"] * 3 + ["link 0", "link -1", "link 0"]
@@ -734,8 +745,8 @@ def try_pieces_that_cannot_be_removed():
     """By `--keep`: the turn went well. They go when the next piece has begun."""
     server = due(*ROTATE, "--keep", "2", pieces=2, env=turning(fails=[("unlink", 2, 9, errno.EPERM)]))
     at = after(3)
-    with meet(server) as client:
-        ask(client, at, at + 100)
+    with Asking(server) as client:
+        client.ask(at, at + 100)
         assert names_of(server) == [1, 2, 3, ""]
     assert server.ended() == (b"", "", 0)
     is_row(server, 0, at + 100)
@@ -746,14 +757,14 @@ def try_a_folder_for_a_new_piece():
     server = due(*ROTATE)
     os.mkdir(f"{server.file}.new")
     at = after(1)
-    with meet(server) as client:
+    with Asking(server) as client:
         for it in range(at, at + 50, 10):
-            ask(client, it, it + 10)
+            client.ask(it, it + 10)
         assert re.fullmatch(no_new_piece(server), told := server.tells()), told
         assert names_of(server) == ["", ".new"]
         os.rmdir(f"{server.file}.new")
-        ask(client, at + 50, at + 60)
-        ask(client, at + 60, at + 70)
+        client.ask(at + 50, at + 60)
+        client.ask(at + 60, at + 70)
         assert names_of(server) == [1, ""]
     assert server.ended() == (b"", "", 0)
     is_row(server, 0, at + 70)
@@ -763,11 +774,11 @@ def try_a_file_that_goes_before_a_turn():
     """Someone has removed FILE: no piece begins, and at the end that is told."""
     at = after(1)
     server = behind({}, piece(0, at - 40), "--rotate", "1")
-    with meet(server) as client:
-        ask(client, at - 40, at - 39)
+    with Asking(server) as client:
+        client.ask(at - 40, at - 39)
         os.remove(server.file)
-        ask(client, at - 39, at + 10)
-        ask(client, at + 10, at + 20)
+        client.ask(at - 39, at + 10)
+        client.ask(at + 10, at + 20)
     printed, told, status = server.ended()
     assert (printed, status) == (b"", 2) and re.fullmatch(no_new_piece(server) + "trace failed\n", told), told
     assert names_of(server) == [], names_of(server)
