@@ -181,6 +181,9 @@ pub(crate) fn made_ready<'a, N: Write + Copy + Drop>(
     if point.bytes == 0 && !may_begin_a_trace(rest) {
         return Err(Unready::Fault(CommandFault::BadLine(1)));
     }
+    if point.bytes == 0 && is_piece {
+        return Err(Unready::Untraced(Untraced::Emptied(last)));
+    }
     match cut_off(file, point.bytes, rest) {
         Ok(()) => Ok(Ready { point, pieces }),
         Err(why) => Err(Unready::Untraced(Untraced::Uncut(why))),
@@ -191,6 +194,8 @@ pub(crate) fn made_ready<'a, N: Write + Copy + Drop>(
 #[derive(Drop)]
 struct Before {
     last: u64,
+    // It begins with a head, or pieces come behind this file, so that it can't be anything else.
+    is_piece: bool,
     piece: Option<File>,
     under: Rules,
 }
@@ -222,6 +227,7 @@ fn piece_before(
     };
     Ok(Before {
         last,
+        is_piece: named.is_some() || (piece.is_some() && how.rotation.is_some()),
         piece,
         under: named.unwrap_or(rules),
     })

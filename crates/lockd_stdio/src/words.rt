@@ -137,7 +137,10 @@ impl<R: Files, W: Write> Observer for ServerWords<'_, R, W> {
                 "{file} goes on from a piece before it, which isn't there: {file}.N has its last orders, which may be sent again"
             )),
             Untraced::Headed(number) => self.say(format_args!(
-                "{file} doesn't go on from where {file}.{number} ends, or that isn't legal by these rules: put the piece before {file} back there"
+                "{file}.{number} isn't the piece before {file}, or can't be read, or both have too few orders: move it away if it is none, and put that piece back"
+            )),
+            Untraced::Emptied(number) => self.say(format_args!(
+                "{file} has no lines, though {file}.{number} is a piece before it: put {file} back, or move the pieces away to begin with nothing"
             )),
             Untraced::Misfit(what) => {
                 let more = more_than_allowed(what);

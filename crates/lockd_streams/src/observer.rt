@@ -62,6 +62,8 @@ pub enum Untraced {
     /// sent again. That is the one of this number, and it isn't the one before, or has too few lines. There is none, if
     /// the number is 0.
     Headed(u64),
+    /// It has no lines, though the piece before it of this number is there: a server would begin with nothing.
+    Emptied(u64),
     /// What is there doesn't fit the rules that were said, since there are more of these than they allow.
     Misfit(Misfit),
     /// No new piece could be begun by the rules that were said.
