@@ -149,8 +149,11 @@ impl<R: Files, W: Write> Observer for ServerWords<'_, R, W> {
             Untraced::Unturned => self.say(format_args!(
                 "{file}: its head names other RULES, and no new piece could be begun by these"
             )),
+            Untraced::Short => self.say(format_args!(
+                "{file}: its head names other RULES, and these can begin a new piece only behind 65536 orders and replies: go on without them first"
+            )),
             Untraced::Unlisted(why) => self.say(format_args!(
-                "{file}: its folder can't be listed, to find the pieces before it: {why}"
+                "{file}: the pieces before and behind it can't be looked for: {why}"
             )),
             Untraced::Irregular => self.say(format_args!(
                 "{file}: it is no regular file: name another"
@@ -191,7 +194,7 @@ fn more_than_allowed(what: Misfit) -> &'static str {
         Misfit::Files => "more files are there than --files allows",
         Misfit::OpenFiles => "more files are open than --open allows",
         Misfit::Runs => "more locked runs are there than --runs allows",
-        Misfit::Parked => "more requests wait than --parked allows, or one waits only by --fair",
+        Misfit::Parked => "more requests wait than --parked allows, or --fair is new and one waits",
     }
 }
 
