@@ -1,4 +1,5 @@
-"""Makes the library of `calls.c`, by which a program's calls of some kinds are counted, move few bytes, fail and are noted, and by which it dies at one."""
+"""Makes the library of `calls.c`, by which a program's calls of some kinds are counted, move few bytes, fail and are noted, and by which it dies at one;
+or that of `turns.c`, which does the same to the calls by which a server begins a new piece of its trace."""
 import errno
 import itertools
 import os
@@ -30,6 +31,11 @@ def dying(how, number):
     return {**environment(), "DIES": f"{how} {number}"}
 
 
+def turning(notes="", dies="", fails=(), most=0):
+    """That of a server with the library of `turns.c`, which says what these are. Each that fails is a kind, its numbers and its error."""
+    return {**os.environ, "LD_PRELOAD": LIBRARY, "NOTES": notes, "DIES": dies, "FAILS": ",".join(" ".join(map(str, it)) for it in fails), "MOST": str(most)}
+
+
 def new_notes():
     return f"{WORK.name}/notes.{next(NUMBERS)}"
 
@@ -45,11 +51,11 @@ def allocations(counts):
     return next(int(line.split()[1]) for line in noted(counts) if line.startswith("allocate "))
 
 
-def main(script, names):
-    """As `tries.main`, once the library is made. The status is 77 if there is no C compiler."""
+def main(script, names, library="calls"):
+    """As `tries.main`, once this library is made. The status is 77 if there is no C compiler."""
     compiler = shutil.which("cc")
     if not compiler:
         print(f"{script}: not tried: there is no C compiler", file=sys.stderr)
         return tries.NOT_TRIED
-    subprocess.run([compiler, "-shared", "-fPIC", "-O1", "-fno-builtin", "-o", LIBRARY, f"{tries.TOP}/tests/shims/calls.c"], check=True)
+    subprocess.run([compiler, "-shared", "-fPIC", "-O1", "-fno-builtin", "-o", LIBRARY, f"{tries.TOP}/tests/shims/{library}.c"], check=True)
     return tries.main(script, names)

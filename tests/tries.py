@@ -143,15 +143,16 @@ def judged(trace, *options):
 
 class Server:
     """A server with these options, and a folder of its own. With `workers=None` it has its default number of them, and with `traced` its file
-    has this text when it starts."""
+    has this text when it starts. `pieces` are the texts of older pieces, by their numbers."""
 
-    def __init__(self, *options, workers=1, printed=subprocess.PIPE, before=None, env=None, program=PROGRAM, traced=None):
+    def __init__(self, *options, workers=1, printed=subprocess.PIPE, before=None, env=None, program=PROGRAM, traced=None, pieces=None):
         self.folder = tempfile.TemporaryDirectory(prefix="try-lockd-")
         os.chmod(self.folder.name, 0o777)
         self.path, self.file = f"{self.folder.name}/socket", f"{self.folder.name}/trace"
-        if traced is not None:
-            with open(self.file, "wb") as file:
-                file.write(traced)
+        for path, text in ((self.file, traced), *((f"{self.file}.{number}", text) for number, text in (pieces or {}).items())):
+            if text is not None:
+                with open(path, "wb") as file:
+                    file.write(text)
         number = ["--workers", str(workers)] if workers else []
         self.words = [program, "serve", self.path, *number, *(it.format(file=self.file) for it in options)]
         self.start(printed, before, env)

@@ -5,13 +5,12 @@ how it ends.
 """
 import os
 import random
-import subprocess
 import sys
 import tempfile
 
-from tests import tries
+from tests import fuse, tries
 from tests.commands.changes import random_script
-from tests.tries import PROGRAM, run
+from tests.tries import INIT, Server, run
 
 RULES = b"0 4096 256 256 1024"
 
@@ -254,15 +253,20 @@ def try_pieces_that_cannot_be_read():
     assert (ran.stdout, ran.returncode) == (b"", 2) and ran.stderr.startswith(b"read failed\n/: "), ran
 
 
-def try_a_server_goes_on_behind_whole_traces_alone():
-    with tempfile.TemporaryDirectory() as folder:
-        path = os.path.join(folder, "trace")
-        with open(path, "wb") as file:
-            file.write(head(NODE, FILE))
-        ran = subprocess.run([PROGRAM, "serve", os.path.join(folder, "socket"), "--resume", path], capture_output=True, timeout=tries.PATIENCE)
-        assert (ran.stdout, ran.stderr, ran.returncode) == (b"", b"cannot trace\n", 2), ran
-        with open(path, "rb") as file:
-            assert file.read() == head(NODE, FILE)
+def try_a_server_goes_on_behind_a_head():
+    """What it tells is there: a lock keeps another away, and the request that waits for it gets it."""
+    told = head(NODE, FILE, LOCK, WAIT)
+    server = Server("--resume", "{file}", workers=None, traced=told)
+    came = server.talk(INIT + fuse.lock(fuse.SETLK, 6000, 33, 0, 0, fuse.WRITE_LOCK, 7, 12) + fuse.lock(fuse.SETLK, 6001, 31, 0, 9, fuse.NO_LOCK, 7, 12))
+    assert fuse.errors(came) == [(1, 0), (6000, fuse.EAGAIN), (6001, 0), (5000, 0)], fuse.errors(came)
+    assert server.ended() == (b"", "", 0)
+    assert server.traced() == told + b"""\
+ask 0 6000 7 0 0 0 setlk 12 33 0 0 1 11 0
+tell 6000 err 11
+ask 0 6001 7 0 0 0 setlk 12 31 0 9 2 11 0
+tell 6001 ok
+tell 5000 ok
+"""
 
 
 if __name__ == "__main__":

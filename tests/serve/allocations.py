@@ -13,8 +13,9 @@ import sys
 from tests import calls, fuse
 from tests.fuse import EAGAIN, EBADF, ENOMEM, FORGET, GETLK, INTERRUPT, NO_LOCK, READ_LOCK, SETLK, SETLKW, WRITE_LOCK
 from tests.resume.kit import LINES, completed, lines_of
+from tests.resume.long import LEAST, behind_head, exchange, long, order_at, paths_of, piece, read, replies_to, text_of
 from tests.serve.kit import Client
-from tests.tries import CREATE, INIT, PATIENCE, PROGRAM, TOP, Server, judged, lock, replies, setlk, take
+from tests.tries import CREATE, INIT, INIT_REPLY, PATIENCE, PROGRAM, TOP, Server, judged, lock, replies, setlk, take
 
 COUNTS = f"{calls.WORK.name}/counts"
 DRIVEN = f"{TOP}/examples/two_locks_driven.txt"
@@ -205,6 +206,35 @@ def try_servers_with_a_trace_file():
 def try_servers_that_go_on():
     """Behind whole lines, which lack a reply, behind some with a cut one, and in a new file."""
     return "; ".join(serve_each_with_file(["--resume", "{file}"], before) for before in (owed_lines(), LINES + b"ask 0 8", None))
+
+
+def serve_in_pieces(older, begin, end, number):
+    """The same, of a server that goes on behind these older pieces and one with these orders. If a new piece is due, and doesn't begin, that is told."""
+    server = Server("--resume", "{file}", "--rotate", "1", env=refusing(number), traced=piece(begin, end), pieces=older, workers=None)
+    try:
+        came = exchange(server, INIT + b"".join(long().messages[end:end + 50]))
+    except (FileNotFoundError, ConnectionError):
+        came = None
+    printed, told, status = server.ended()
+    texts = [read(it) for it in paths_of(server)]
+    if told == "no memory\n":
+        assert (printed, status, came, texts) == (b"", 2, None, [*older.values(), piece(begin, end)]), (number, printed, status)
+        return False
+    assert (printed, status) == (b"", 0) and re.fullmatch(r"(no new piece of .*\n)?", told), (number, printed, told, status)
+    assert came == INIT_REPLY + b"".join(replies_to(end, end + 50)), number
+    assert b"".join(map(behind_head, texts)) == text_of(0, end + 50), number
+    return True
+
+
+def try_servers_in_pieces():
+    """Behind the piece before, and where a new one is due."""
+    said = []
+    for older, begin, end in ({1: piece(0, 100)}, 100, 200), ({}, 0, order_at(LEAST)):
+        assert serve_in_pieces(older, begin, end, 0)
+        came = [serve_in_pieces(older, begin, end, number) for number in range(1, asked() + 1)]
+        assert not all(came), came
+        said.append(f"{len(came)} refused: {came.count(False)} ended with no memory")
+    return "; ".join(said)
 
 
 def try_an_order_takes_no_memory():

@@ -69,12 +69,12 @@ pub(crate) fn with_before<B: Read + Drop>(
 fn are_enough(recent: &Recent, place: Place) -> bool
     ensures { IsTrue result ↔ AreEnough place recent.now }
 {
-    let kept = recent.kept();
-    kept >= MOST_KEPT || place.lines == kept as u64
+    let kept = recent.kept() as u64;
+    kept >= MOST_KEPT || place.lines == kept
 }
 
 // So many orders and replies are known of those of messages that are sent again.
-const MOST_KEPT: usize = 65_536;
+pub(crate) const MOST_KEPT: u64 = 65_536;
 
 // The lines of the piece before these, which end at this place; none, if that piece can't be read, isn't legal, or ends
 // elsewhere than these begin.

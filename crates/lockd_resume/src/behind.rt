@@ -98,7 +98,7 @@ pub(crate) fn resume<R: Read, W: Write, T: Write + Drop, P: Pieces<T> + Drop>(
 }
 
 // The lines of a trace and the replies that they lack.
-pub(crate) fn lines_behind<T: Write + Drop, P: Pieces<T> + Drop>(
+fn lines_behind<T: Write + Drop, P: Pieces<T> + Drop>(
     mut journal: PieceLines<T, P>,
     missing: &[Told],
 ) -> PieceLines<T, P>

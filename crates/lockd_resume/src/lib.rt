@@ -18,7 +18,6 @@
 //!   lines, or others than the file's, or writes the new ones elsewhere;
 //! - one that cuts nothing off or too much, or a file at `no memory`, or one whose lines differ or that may be no
 //!   trace; that doesn't lock its file, or only once it was read, or doesn't ask at the end whether it is there;
-//! - an `end_printed` that says wrongly that the output failed, or an `end_streamed` that the trace's writer did;
 //! - a server that tells its observer something else than what it does, or nothing, or another reason.
 //!
 //! These tests refuse most of them:
@@ -41,7 +40,7 @@ mod resume_file;
 mod resuming;
 
 pub use behind::ResumedRun;
-pub use ending::{end_printed, end_session, end_streamed, end_unheard, end_unopened, streamed};
+pub use ending::{end_session, end_unheard, end_unopened, end_untraced};
 pub use hang_up::{HangUp, hang_up_if};
 pub use observer::ResumeObserver;
 pub use other_rules::head_rules;

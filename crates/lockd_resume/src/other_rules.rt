@@ -1,21 +1,22 @@
 //! A trace that goes on by other rules than before: its next piece tells what is there by these.
 
-ghost use Rattle.std.specs.Prelude.{◌≡◌, IfErr};
+ghost use Rattle.std.specs.Prelude.{◌≡◌, ◌++◌, IfErr, IfOk, None, Ok};
+ghost use Rattle.fl_desk.specs.Heads.{head_lines, IsHead};
 ghost use Rattle.fl_desk.specs.Kept.{IsKept};
 ghost use Rattle.fl_history.specs.Place.{place_of};
 ghost use Rattle.lockd_resume.specs.Inside.{ComesBefore};
 ghost use Rattle.lockd_resume.specs.Resumed.{lines_at};
 
-use crate::behind::lines_behind;
+use crate::before::MOST_KEPT;
 use crate::point::ResumePoint;
 use crate::resume_file::{NextPieces, Ready, Resuming, Unready, made_ready};
 use fl_audit::{Details, read_opening};
 use fl_core::Rules;
 use fl_desk::{ToldHead, head_of};
-use fl_history::{Line, Past};
+use fl_history::{Journal, Line, Past};
 use fl_judge::{Judge, Resumed};
 use fl_order::{Head, NoMemory, StateLine, StatePart};
-use fl_stream::{AheadLines, OnePiece, PieceLines, Pieces};
+use fl_stream::{AheadLines, Pieces};
 use fl_trace::LINE_ROOM;
 use lockd_faults::CommandFault;
 use lockd_streams::{FilePieces, Misfit, Rotation, Untraced, file_to_go_on_in};
@@ -23,8 +24,8 @@ use std::alloc::Global;
 use std::fs::File;
 use std::io::{Seek, SeekFrom, Write};
 
-// No head has so many lines.
-const MOST_LINES: usize = 1 << 40;
+// No head has so many parts.
+const MOST_PARTS: usize = 1 << 40;
 
 /// The rules that the head of a trace's file names, if it has one that can be read. The file is read from its beginning
 /// then.
@@ -39,9 +40,9 @@ pub fn head_rules(file: &mut File) -> Option<Rules> {
     opening?.rules
 }
 
-/// The file in which a server goes on by these rules: this one, or, if its head names others, that of the next piece,
-/// which tells what is there by these. What is there has to fit them.
-pub(crate) fn file_under<'a, N: Write + Copy + Drop>(
+/// What a server goes on from by these rules, and in which file: this one, or, if its head names others, that of the next
+/// piece, which tells what is there by these. What is there has to fit them.
+pub(crate) fn ready_under<'a, N: Write + Copy + Drop>(
     rt: &'a HostRuntime,
     alloc: Global,
     rules: Rules,
@@ -49,21 +50,28 @@ pub(crate) fn file_under<'a, N: Write + Copy + Drop>(
     how: Resuming<'a>,
     notices: N,
     details: &mut Details,
-) -> Result<File, Unready>
+) -> Result<(File, Ready<FilePieces<'a, N>>), Unready>
+    ensures recent { IfOk result (λ it. it.1.point.recent ≡ it.1.point.heard.items ++ it.1.point.resumed.past.items) }
+    ensures place { IfOk result (λ it. it.1.point.place ≡ place_of it.1.point.resumed.past.items) }
+    ensures kept { IfOk result (λ it. IsKept (lines_at it.1.point) it.1.point.resumed.present) }
+    ensures present { IfOk result (λ it. it.1.point.resumed.present.rules ≡ it.1.point.session.rules) }
+    ensures rules { IfOk result (λ it. it.1.point.session.rules ≡ rules) }
     ensures before { IfErr result ComesBefore }
 {
     let named = head_rules(&mut file).unwrap_or(rules);
-    if named == rules {
-        return Ok(file);
+    if named != rules {
+        begin_under(rt, alloc, named, rules, file, how, notices, details)?;
+        file = match file_to_go_on_in(rt, how.name) {
+            Ok(file) => file,
+            Err(why) => return Err(Unready::Untraced(Untraced::Unopened(why))),
+        };
     }
-    begin_under(rt, alloc, named, rules, file, how, notices, details)?;
-    match file_to_go_on_in(rt, how.name) {
-        Ok(file) => Ok(file),
-        Err(why) => Err(Unready::Untraced(Untraced::Unopened(why))),
-    }
+    let ready = made_ready(rt, alloc, rules, &mut file, how, notices, details)?;
+    Ok((file, ready))
 }
 
-// Begins the next piece by these rules, behind a file whose head names others.
+// Begins the next piece by these rules, behind a file whose head names others. No other piece goes, since this one may be
+// short. It has to be long enough to be the piece before one with no orders: else no next server could go on.
 fn begin_under<'a, N: Write + Copy + Drop>(
     rt: &'a HostRuntime,
     alloc: Global,
@@ -76,35 +84,25 @@ fn begin_under<'a, N: Write + Copy + Drop>(
 ) -> Result<(), Unready>
     ensures before { IfErr result ComesBefore }
 {
-    let how = turning(how);
+    let (bytes, keep) = (u64::MAX, None);
+    let rotation = Some(Rotation { bytes, keep });
+    let how = Resuming { rotation, ..how };
     let ready = made_ready(rt, alloc, named, &mut file, how, notices, details)?;
     let Ready { point, pieces } = ready;
-    let Some(pieces) = pieces else {
-        return Err(Unready::Untraced(Untraced::Unturned));
-    };
-    let told = told_under(alloc, rules, &point)?;
-    if !complete(point, file) {
-        return Err(Unready::Untraced(Untraced::Unturned));
+    if point.since < MOST_KEPT && point.since != point.place.lines {
+        return Err(Unready::Untraced(Untraced::Short));
     }
-    turn_to(pieces, &told)
-}
-
-// How a server goes on that begins a piece at once.
-fn turning(how: Resuming<'_>) -> Resuming<'_> {
-    let keep = match how.rotation {
-        Some(rotation) => rotation.keep,
-        None => None,
-    };
-    let bytes = u64::MAX;
-    Resuming {
-        rotation: Some(Rotation { bytes, keep }),
-        ..how
+    let told = told_under(alloc, rules, &point)?;
+    match pieces {
+        Some(pieces) if complete(point, file) => turn_to(pieces, &told),
+        _ => Err(Unready::Untraced(Untraced::Unturned)),
     }
 }
 
 // The head that tells by these rules what is there at a point, if it fits them.
 fn told_under(alloc: Global, rules: Rules, point: &ResumePoint) -> Result<ToldHead, Unready>
     requires { IsKept (lines_at point.now) point.now.resumed.present }
+    ensures told { IfOk result (λ it. IsHead rules (head_lines it.head it.parts.items)) }
     ensures before { IfErr result ComesBefore }
 {
     let missing = point.resumed.missing.as_slice().len() as u64;
@@ -121,6 +119,9 @@ fn told_under(alloc: Global, rules: Rules, point: &ResumePoint) -> Result<ToldHe
         open_files: rules.open_files,
         ..head
     };
+    if rules.fair && !point.session.rules.fair && has_wait(parts.as_slice()) {
+        return Err(Unready::Untraced(Untraced::Misfit(Misfit::Parked)));
+    }
     match first_misfit(alloc, rules, &head, parts.as_slice()) {
         Ok(None) => Ok(ToldHead { head, parts }),
         Ok(Some(misfit)) => Err(Unready::Untraced(Untraced::Misfit(misfit))),
@@ -128,24 +129,38 @@ fn told_under(alloc: Global, rules: Rules, point: &ResumePoint) -> Result<ToldHe
     }
 }
 
-// The first part of a head that doesn't fit these rules, if one doesn't.
+// The first part of a head that doesn't fit these rules; none, if all do, and it can be told under them.
 fn first_misfit(
     alloc: Global,
     rules: Rules,
     head: &Head,
     parts: &[StatePart],
-) -> Result<Option<Misfit>, NoMemory> {
+) -> Result<Option<Misfit>, NoMemory>
+    ensures { result ≡ Ok None → IsHead rules (head_lines head.now parts.now) }
+{
+    if parts.len() >= MOST_PARTS {
+        return Err(NoMemory);
+    }
     let mut judge = Judge::new(alloc, rules)?;
     judge.hear(&Line::State(StateLine::Head(*head)));
     for part in parts {
-        if judge.heard() < MOST_LINES {
-            judge.hear(&Line::State(StateLine::Part(*part)));
-        }
+        judge.hear(&Line::State(StateLine::Part(*part)));
         if !judge.begins() {
             return Ok(Some(misfit_of(part)));
         }
     }
-    Ok(None)
+    judge.hear(&Line::State(StateLine::Go));
+    match judge.told() {
+        Some(_) => Ok(None),
+        None => Ok(Some(Misfit::Parked)),
+    }
+}
+
+// Whether a request waits. By fair rules owners who wait so may wait in a circle, which nobody asked about.
+fn has_wait(parts: &[StatePart]) -> bool {
+    parts
+        .iter()
+        .any(|part| matches!(part, StatePart::Wait { .. }))
 }
 
 // What doesn't fit, if this part doesn't.
@@ -159,19 +174,20 @@ fn misfit_of(part: &StatePart) -> Misfit {
 }
 
 // Writes the replies that the last order of a file lacks, and says whether it could.
-fn complete(point: ResumePoint, file: File) -> bool
-    requires { point.place ≡ place_of point.resumed.past.items }
-{
+fn complete(point: ResumePoint, file: File) -> bool {
     let ResumePoint {
         resumed,
-        place,
         stream,
         ..
     } = point;
     let Resumed { missing, past, .. } = resumed;
-    let journal = PieceLines::behind(stream, None, file, &past, place, 0, OnePiece);
-    let journal = lines_behind(journal, missing.as_slice());
-    let mut here = journal.into_here();
+    let mut here = AheadLines::behind(stream, file, &past);
+    for told in missing.as_slice() {
+        if here.reserve(1).is_err() {
+            return false;
+        }
+        here.push_told(told);
+    }
     here.finish()
 }
 

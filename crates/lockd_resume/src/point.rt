@@ -14,7 +14,7 @@ pub struct ResumePoint {
     pub heard: Past<Line>,
     /// The last of the lines, and of those that were heard before.
     pub recent: Recent,
-    /// How many of the file's last lines are orders and replies, up to 65,536.
+    /// How many orders and replies the file has: 65,536, if there are more.
     pub since: u64,
     /// Where the lines end.
     pub place: Place,

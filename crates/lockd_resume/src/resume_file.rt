@@ -20,7 +20,7 @@ use crate::behind::ResumedRun;
 use crate::ending::{end_unheard, end_unopened};
 use crate::hang_up::HangUp;
 use crate::observer::ResumeObserver;
-use crate::other_rules::{file_under, head_rules};
+use crate::other_rules::{head_rules, ready_under};
 use crate::point::ResumePoint;
 use crate::resuming::resume_stream;
 use fl_audit::{AuditFault, Details, Heard, hear_cut};
@@ -37,9 +37,9 @@ use lockd_streams::{
 };
 use std::alloc::Global;
 use std::fs::{File, TryLockError};
-use std::io;
 use std::io::{ErrorKind, Read, Write};
 use std::path::Path;
+use std::{fs, io};
 
 // How a trace begins.
 const ASK: &[u8] = b"ask ";
@@ -56,10 +56,10 @@ pub struct Resuming<'a> {
 }
 
 /// `lockd serve --resume`: goes on behind the lines of a trace's file, under these rules, with one worker. It listens
-/// as `lockd serve` does, but a socket's file at the path is replaced if nobody listens at it. Nothing was read of the
-/// file, which gets what is written behind what it has. If another server has it, it isn't there any more, is no regular
+/// as `lockd serve` does, but a socket's file at the path is replaced if nobody listens at it. The file is read from its
+/// beginning, and gets what is written behind what it has. If another server has it, it isn't there any more, is no regular
 /// file, or can't be locked or cut off, the fault is `Trace`. So it is if it begins with a head, has fewer than 65,536
-/// orders and replies, and the piece before it (`last_piece`) is missing, isn't legal, or ends elsewhere. If its head
+/// orders and replies, and the piece before it (`last_piece`) is missing, isn't legal, ends elsewhere, or has too few. If its head
 /// names other rules, the next piece begins at once by these, unless what is there doesn't fit them (`file_under`).
 ///
 /// What follows the file's last newline is cut off, and the replies that its last order lacks are written to it. Then
@@ -95,14 +95,7 @@ pub fn resume_on<F: Write, N: Write + Copy + Drop, O: ResumeObserver>(
 {
     let name = how.name;
     let mut details = Details::new();
-    let mut file = match file_under(rt, alloc, rules, file, how, notices, &mut details) {
-        Ok(file) => file,
-        Err(Unready::Untraced(why)) => return end_unopened(faults, observer, why),
-        Err(Unready::Fault(fault)) => {
-            return end_unresumed(alloc, faults, observer, fault, &details);
-        }
-    };
-    let ready = match made_ready(rt, alloc, rules, &mut file, how, notices, &mut details) {
+    let (file, ready) = match ready_under(rt, alloc, rules, file, how, notices, &mut details) {
         Ok(ready) => ready,
         Err(Unready::Untraced(why)) => return end_unopened(faults, observer, why),
         Err(Unready::Fault(fault)) => {
@@ -167,10 +160,15 @@ pub(crate) fn made_ready<'a, N: Write + Copy + Drop>(
     ensures rules { IfOk result (λ ready. ready.point.session.rules ≡ rules) }
     ensures before { IfErr result ComesBefore }
 {
-    if let Some(why) = untakable(rt, file, how.name) {
+    if let Some(why) = untakable(rt, file, how) {
         return Err(Unready::Untraced(why));
     }
-    let Before { last, piece, under } = piece_before(rt, file, how.name, rules)?;
+    let Before {
+        last,
+        is_piece,
+        piece,
+        under,
+    } = piece_before(rt, file, how, rules)?;
     let pieces = next_pieces(rt, alloc, file, how, last, notices)?;
     let point = match resumed_from(alloc, rules, under, piece, file, details) {
         Ok(point) => point,
@@ -180,6 +178,9 @@ pub(crate) fn made_ready<'a, N: Write + Copy + Drop>(
     let rest = details.bad.text();
     if point.bytes == 0 && !may_begin_a_trace(rest) {
         return Err(Unready::Fault(CommandFault::BadLine(1)));
+    }
+    if point.bytes == 0 && is_piece {
+        return Err(Unready::Untraced(Untraced::Emptied(last)));
     }
     match cut_off(file, point.bytes, rest) {
         Ok(()) => Ok(Ready { point, pieces }),
@@ -191,19 +192,30 @@ pub(crate) fn made_ready<'a, N: Write + Copy + Drop>(
 #[derive(Drop)]
 struct Before {
     last: u64,
+    is_piece: bool,
     piece: Option<File>,
     under: Rules,
 }
 
-// What stands before this file, whose rules are these: those of a piece that names none, too.
-fn piece_before(rt: &HostRuntime, file: &File, name: &str, rules: Rules) -> Result<Before, Unready>
+// What stands before this file, whose rules are these: those of a piece that names none, too. Nobody asks for it if the
+// file has no head, and no pieces come behind it.
+fn piece_before(
+    rt: &HostRuntime,
+    file: &mut File,
+    how: Resuming<'_>,
+    rules: Rules,
+) -> Result<Before, Unready>
     ensures before { IfErr result ComesBefore }
 {
-    let last = match last_piece(rt, name, file) {
-        Ok(last) => last,
-        Err(why) => return Err(unlisted(why)),
+    let is_wanted = how.rotation.is_some() || head_rules(file).is_some();
+    let last = match is_wanted {
+        false => 0,
+        true => match last_piece(rt, how.name, file) {
+            Ok(last) => last,
+            Err(why) => return Err(unlisted(why)),
+        },
     };
-    let mut piece = match open_piece(rt, name, last) {
+    let mut piece = match open_piece(rt, how.name, last) {
         Ok(piece) => piece,
         Err(_) => return Err(Unready::Fault(CommandFault::NoMemory)),
     };
@@ -213,6 +225,7 @@ fn piece_before(rt: &HostRuntime, file: &File, name: &str, rules: Rules) -> Resu
     };
     Ok(Before {
         last,
+        is_piece: piece.is_some(),
         piece,
         under: named.unwrap_or(rules),
     })
@@ -287,14 +300,24 @@ fn resume_in<I: Read, C: Write, T: Write + Drop, P: Pieces<T> + Drop, H: HangUp,
     }
 }
 
-// Why a server can't take a file of this name, if it can't. It is locked, if it can.
-fn untakable(rt: &HostRuntime, file: &File, name: &str) -> Option<Untraced> {
+// Why a server can't take a file so, if it can't. It is locked, if it can. The next piece would replace a symbolic link.
+fn untakable(rt: &HostRuntime, file: &File, how: Resuming<'_>) -> Option<Untraced> {
+    let path = Path::new(how.name);
     match file.try_lock() {
         Err(TryLockError::WouldBlock) => Some(Untraced::Taken),
         Err(TryLockError::Error(why)) => Some(Untraced::Unlocked(why)),
-        Ok(()) if !is_at(rt, Path::new(name), file) => Some(Untraced::Gone),
+        Ok(()) if !is_at(rt, path, file) => Some(Untraced::Gone),
         Ok(()) if !is_regular(file) => Some(Untraced::Irregular),
+        Ok(()) if how.rotation.is_some() && is_link(rt, path) => Some(Untraced::Irregular),
         Ok(()) => None,
+    }
+}
+
+// Whether what stands at a path is a symbolic link.
+fn is_link(rt: &HostRuntime, path: Path<'_>) -> bool {
+    match fs::symlink_metadata(rt, path) {
+        Ok(found) => found.is_symlink(),
+        Err(_) => false,
     }
 }
 

@@ -20,6 +20,7 @@
 //! - what an observer is told: `tests/commands/words.py`, `tests/commands/texts.py`.
 #![tactic(auto)]
 
+mod ending;
 mod options;
 mod serve;
 mod serving;

@@ -11,13 +11,14 @@ ghost use Rattle.lockd_serve.specs.Ending.{IsOver, WentWell};
 ghost use Rattle.lockd_serve.specs.Served.{HasServed};
 ghost use Rattle.lockd_serve.specs.Unserved.{LeavesNothing};
 
+use crate::ending::{end_printed, end_streamed, streamed};
 use crate::options::{ServeOptions, TraceTo};
 use fl_core::Rules;
 use fl_history::{Journal, Lines, NoJournal};
 use fl_serve::{OpenGate, Recorded, Staff, record_session, record_with_workers};
 use fl_stream::{AheadLines, Streamed, TraceRoom, WhenWriterFails};
 use lockd_faults::{CommandFault, Status, end};
-use lockd_resume::{HangUp, end_printed, end_session, end_streamed, hang_up_if, streamed};
+use lockd_resume::{HangUp, end_session, hang_up_if};
 use std::alloc::Global;
 use std::io::{Read, Write};
 use std::sync::Wait;

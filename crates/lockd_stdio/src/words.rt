@@ -137,7 +137,10 @@ impl<R: Files, W: Write> Observer for ServerWords<'_, R, W> {
                 "{file} goes on from a piece before it, which isn't there: {file}.N has its last orders, which may be sent again"
             )),
             Untraced::Headed(number) => self.say(format_args!(
-                "{file} doesn't go on from where {file}.{number} ends, or that isn't legal by these rules: put the piece before {file} back there"
+                "{file}.{number} isn't the piece before {file}, or can't be read, or both have too few orders: move it away if it is none, and put that piece back"
+            )),
+            Untraced::Emptied(number) => self.say(format_args!(
+                "{file} has no lines, though {file}.{number} is a piece before it: put {file} back, or move the pieces away to begin with nothing"
             )),
             Untraced::Misfit(what) => {
                 let more = more_than_allowed(what);
@@ -146,8 +149,11 @@ impl<R: Files, W: Write> Observer for ServerWords<'_, R, W> {
             Untraced::Unturned => self.say(format_args!(
                 "{file}: its head names other RULES, and no new piece could be begun by these"
             )),
+            Untraced::Short => self.say(format_args!(
+                "{file}: its head names other RULES, and these can begin a new piece only behind 65536 orders and replies: go on without them first"
+            )),
             Untraced::Unlisted(why) => self.say(format_args!(
-                "{file}: its folder can't be listed, to find the pieces before it: {why}"
+                "{file}: the pieces before and behind it can't be looked for: {why}"
             )),
             Untraced::Irregular => self.say(format_args!(
                 "{file}: it is no regular file: name another"
@@ -188,7 +194,7 @@ fn more_than_allowed(what: Misfit) -> &'static str {
         Misfit::Files => "more files are there than --files allows",
         Misfit::OpenFiles => "more files are open than --open allows",
         Misfit::Runs => "more locked runs are there than --runs allows",
-        Misfit::Parked => "more requests wait than --parked allows, or one waits only by --fair",
+        Misfit::Parked => "more requests wait than --parked allows, or --fair is new and one waits",
     }
 }
 

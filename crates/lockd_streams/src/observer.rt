@@ -62,10 +62,14 @@ pub enum Untraced {
     /// sent again. That is the one of this number, and it isn't the one before, or has too few lines. There is none, if
     /// the number is 0.
     Headed(u64),
+    /// It has no lines, though the piece before it of this number is there: a server would begin with nothing.
+    Emptied(u64),
     /// What is there doesn't fit the rules that were said, since there are more of these than they allow.
     Misfit(Misfit),
-    /// No new piece could be begun by the rules that were said.
+    /// No new piece could be begun by the rules that were said, or the last one lacks replies and can't be written.
     Unturned,
+    /// Its head names other rules than those that were said, and it has too few orders and replies for a new piece.
+    Short,
     /// Its folder can't be listed, to find the piece before, for this reason.
     Unlisted(io::Error),
     /// It can't be opened or made, for this reason.

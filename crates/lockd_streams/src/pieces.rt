@@ -7,13 +7,16 @@ use crate::trace_file::is_at;
 use fl_stream::Pieces;
 use std::alloc::{AllocError, Global};
 use std::fmt::Write as _;
-use std::fs::{File, Files, OpenFile, OpenOptions};
+use std::fs::{File, OpenFile, OpenOptions, TryLockError};
 use std::io::{ErrorKind, Write};
+use std::os::unix::fs::{MetadataExt, chown};
 use std::path::Path;
 use std::{fs, io};
 
 // A dot and a number of 64 bits have so many bytes at most.
 const NUMBER_ROOM: usize = 21;
+
+const GONE: &str = "the file was removed or replaced";
 
 // How many names that others took are passed by, before a piece gets none.
 const MOST_TAKEN: u64 = 1000;
@@ -79,17 +82,29 @@ impl<'a, N: Write + Copy> FilePieces<'a, N> {
         })
     }
 
-    // A new file for the next piece, which is locked, so that no other server goes on in it.
+    // A new file for the next piece, which is locked, so that no other server goes on in it. Its permissions and its
+    // owner are those of the file at hand, as far as this process may give them.
     fn make_next(&mut self) -> io::Result<File> {
         let path = self.names.next()?;
-        let _ = fs::remove_file(self.rt, path);
+        remove_untaken(self.rt, path);
         let made = OpenOptions::new()
             .append(true)
             .create_new(true)
             .open(self.rt, path)?;
         made.try_lock()?;
+        let found = self.here.metadata()?;
+        let _ = chown(self.rt, path, Some(found.uid()), Some(found.gid()));
+        made.set_permissions(found.permissions())?;
         self.next = Some(made.try_clone()?);
         Ok(made)
+    }
+
+    // Takes the file of a next piece away that doesn't count.
+    fn drop_next(&mut self) {
+        self.next = None;
+        if let Ok(path) = self.names.next() {
+            remove_untaken(self.rt, path);
+        }
     }
 
     // The next piece, whose head this file has, counts from now on.
@@ -106,7 +121,7 @@ impl<'a, N: Write + Copy> FilePieces<'a, N> {
     // was killed in just this moment, that is it.
     fn number_here(&mut self) -> io::Result<u64> {
         if !is_at(self.rt, Path::new(self.name), &self.here) {
-            return Err(io::Error::from(ErrorKind::NotFound));
+            return Err(io::Error::new(ErrorKind::NotFound, GONE));
         }
         for taken in 0..MOST_TAKEN {
             let number = self.last.saturating_add(1).saturating_add(taken);
@@ -135,7 +150,7 @@ impl<'a, N: Write + Copy> FilePieces<'a, N> {
             let Ok(path) = self.names.numbered(number - below) else {
                 return;
             };
-            if fs::remove_file(self.rt, path).is_err() {
+            if !remove_untaken(self.rt, path) {
                 return;
             }
         }
@@ -155,6 +170,14 @@ impl<'a, N: Write + Copy> FilePieces<'a, N> {
             let _ = writeln!(self.notices, "no new piece of {}: {why}", self.name);
         }
         self.put_off();
+    }
+
+    // A piece was begun. It is told, if none was when the last one was due.
+    fn recover(&mut self) {
+        if self.failed {
+            self.failed = false;
+            let _ = writeln!(self.notices, "{} goes on in a new piece", self.name);
+        }
     }
 
     // None was begun: the next one is due once the file has grown by as much again.
@@ -177,6 +200,7 @@ impl<'a, N: Write + Copy + Drop> Pieces<PieceWriter<'a, N>> for FilePieces<'a, N
                 Some(Retrying::new(draft, self.rt, WhenUnwritten::End))
             }
             Err(why) => {
+                self.drop_next();
                 self.fail(&why);
                 None
             }
@@ -192,19 +216,34 @@ impl<'a, N: Write + Copy + Drop> Pieces<PieceWriter<'a, N>> for FilePieces<'a, N
             self.here = next;
         }
         self.due_at = self.rotation.bytes;
-        self.failed = false;
+        self.recover();
         writer.settle(self.when);
         self.remove_old();
         true
     }
 
     fn give_up(&mut self) {
-        self.next = None;
-        if let Ok(path) = self.names.next() {
-            let _ = fs::remove_file(self.rt, path);
-        }
+        self.drop_next();
         self.put_off();
     }
+}
+
+// Takes a file at a path away, unless a server has it locked, and says whether it did.
+fn remove_untaken(rt: &HostRuntime, path: Path<'_>) -> bool {
+    if let Ok(file) = open_regular(rt, path) {
+        if let Err(TryLockError::WouldBlock) = file.try_lock() {
+            return false;
+        }
+    }
+    fs::remove_file(rt, path).is_ok()
+}
+
+// The regular file at a path, to be read. No other one is opened, since that may wait.
+fn open_regular(rt: &HostRuntime, path: Path<'_>) -> io::Result<File> {
+    if !fs::metadata(rt, path)?.is_file() {
+        return Err(io::Error::from(ErrorKind::InvalidInput));
+    }
+    File::open(rt, path)
 }
 
 // How many bytes a file has; none, if the system doesn't tell.
@@ -221,11 +260,16 @@ pub fn last_piece(rt: &HostRuntime, name: &str, file: &File) -> io::Result<u64> 
     let (folder, own) = parts_of(name);
     let mut last = 0;
     for entry in fs::read_dir(rt, folder)? {
-        let entry = entry?;
-        if let Some(number) = number_behind(entry.file_name(), own) {
-            if number > last && !is_at(rt, entry.path(), file) {
-                last = number;
+        match entry {
+            Ok(entry) => {
+                let number = number_behind(entry.file_name(), own).unwrap_or(0);
+                if number > last && !is_at(rt, entry.path(), file) {
+                    last = number;
+                }
             }
+            // A name that is no text is none of a piece.
+            Err(why) if why.kind() == ErrorKind::InvalidFilename => {}
+            Err(why) => return Err(why),
         }
     }
     Ok(last)
@@ -238,7 +282,7 @@ pub fn open_piece(rt: &HostRuntime, name: &str, number: u64) -> Result<Option<Fi
     }
     let mut names = PieceNames::of(rt.alloc(), name)?;
     match names.numbered(number) {
-        Ok(path) => Ok(File::open(rt, path).ok()),
+        Ok(path) => Ok(open_regular(rt, path).ok()),
         Err(_) => Ok(None),
     }
 }

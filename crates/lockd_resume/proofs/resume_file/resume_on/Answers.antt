@@ -6,4 +6,4 @@ pub returns-clause-over : goal.returns-clause-over
 returns-clause-over g c =
     let run = c.resume_in-status.result.1 in
     let over = c.resume_in-status.ensures.over.1 in
-    inr (serves _ _ _ _ _ _ _ _ _ run _ c.in-Ok-made_ready.ensures.rules over (c.end_at-status.ensures run.fault _ over.ends))
+    inr (serves _ _ _ _ _ _ _ _ _ run _ c.in-Ok.ensures.rules over (c.end_at-status.ensures run.fault _ over.ends))

@@ -1,8 +1,8 @@
 use Rattle.std.proofs.Common.{sym, subst}
 use Rattle.fl_session.specs.Recorded.{journal_lines}
 use Rattle.fl_stream.specs.Streams.{HoldsText}
-use Rattle.lockd_resume.proofs.Stored.{fewer_there}
-use Rattle.lockd_resume.proofs.ending.end_streamed.Goals as goal
+use Rattle.lockd_serve.proofs.EndingLemmas.{fewer_there}
+use Rattle.lockd_serve.proofs.ending.end_streamed.Goals as goal
 
 pub returns-clause-noted : goal.returns-clause-noted
 returns-clause-noted g c =
