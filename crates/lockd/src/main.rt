@@ -4,7 +4,7 @@
 //! Contracts let through:
 //! - a `run` that runs another command than is asked for;
 //! - a function of a command (`serve`, `serve_opened`, `resume`) that gives it other rules or workers, another path,
-//!   another `when_full`, or another trace than `opened` made, or has another status;
+//!   another `when_full` or rotation, or another trace than `opened` made, or has another status;
 //! - an `opened` or a `resume` whose file is at another path, or that is always refused; an `end_traced` that never asks
 //!   for the file;
 //! - a `remove_unused` that takes away the trace's file of a session that was served, or another's file, or leaves one

@@ -18,11 +18,16 @@
 //!   lines, or others than the file's, or writes the new ones elsewhere;
 //! - one that cuts nothing off or too much, or a file at `no memory`, or one whose lines differ or that may be no
 //!   trace; that doesn't lock its file, or only once it was read, or doesn't ask at the end whether it is there;
+//! - a `PieceLines` that is due too early, or never; a `resume_on` that gives its pieces another rotation;
+//! - a `head_rules` that names others, or none; other rules than the piece's own for the piece before;
+//! - a change of rules that tells something else by the new ones than what is there, though a head that fits them, or loses
+//!   the replies that the last piece lacks; one that is refused, or isn't;
 //! - a server that tells its observer something else than what it does, or nothing, or another reason.
 //!
 //! These tests refuse most of them:
 //! - `resume_on`, its file and old sockets: `tests/serve/sessions.py`, `tests/resume/kills.py`,
 //!   `tests/resume/files.py`;
+//! - pieces, what stands before one, and other rules: `tests/resume/pieces.py`;
 //! - traces, and files that go or can't be written: `tests/serve/traces.py`;
 //! - `no memory`, and what the trace's file has then: `tests/serve/allocations.py`;
 //! - what an observer is told: `tests/commands/words.py`, `tests/commands/texts.py`.

@@ -60,7 +60,7 @@ pub struct Resuming<'a> {
 /// beginning, and gets what is written behind what it has. If another server has it, it isn't there any more, is no regular
 /// file, or can't be locked or cut off, the fault is `Trace`. So it is if it begins with a head, has fewer than 65,536
 /// orders and replies, and the piece before it (`last_piece`) is missing, isn't legal, ends elsewhere, or has too few. If its head
-/// names other rules, the next piece begins at once by these, unless what is there doesn't fit them (`file_under`).
+/// names other rules, the next piece begins at once by these, unless what is there doesn't fit them (`ready_under`).
 ///
 /// What follows the file's last newline is cut off, and the replies that its last order lacks are written to it. Then
 /// the lines of each order are written before any of its replies leaves. While a write fails, `when` says what happens,

@@ -15,6 +15,9 @@
 //!   file, makes none, or can't be read;
 //! - an `end_traced_to` that always or never says that the file is gone; a `remove_if_at` that removes another file, or
 //!   none; any of these that tells the observer something else than it did, or nothing;
+//! - a `FilePieces` that is never due, or too early; that gives a piece another number, name, mode or owner, or none; that
+//!   does its calls in another order, forces nothing to the disk, or removes a file that is no piece, or none;
+//! - a `last_piece` or an `open_piece` that finds another file, or none;
 //! - a `Spinning` that never or always spins, reads on after a read that failed, or leaves its socket so that it
 //!   doesn't wait, and then gives `WouldBlock`;
 //! - a `Patient` that tries once, tries again after any failure, tells an error always or another, or leaves its socket
@@ -26,6 +29,7 @@
 //!   `try_ends` of `tests/serve/sessions.py`;
 //! - files that are there, go, or can't be written: `tests/serve/traces.py`, `tests/resume/files.py`, which tries old
 //!   sockets, too;
+//! - pieces, and servers that are killed in a turn: `tests/resume/pieces.py`;
 //! - when all is written again: `tests/commands/words.py`, `tests/commands/texts.py`.
 //!
 //! None sees a `file_at` that gives another number for the device, since all their files lie on one. None sees a
