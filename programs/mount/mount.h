@@ -27,6 +27,8 @@ enum status { STATUS_UNMOUNTED = 0, STATUS_SERVER = 1, STATUS_NOT_MOUNTED = 2, S
 
 // ---- options.c ----
 
+enum { MOST_RULES = 20 };
+
 struct options {
     const char *folder;
     const char *trace; // NULL: a new file in a new folder; "none": nowhere
@@ -37,7 +39,7 @@ struct options {
     const char *times; // NULL: they aren't written
     const char *source; // as /proc/mounts names it
     const char *workers;
-    const char *rules[10]; // those that `serve` and `check` take alike
+    const char *rules[MOST_RULES]; // those that `serve`, `state` and `check` take alike: all limits are among them
     int rule_count;
     unsigned files, open; // those of the rules
     bool allow_other, count, discard_writes, nonempty, no_check;
@@ -111,7 +113,8 @@ struct server {
     int socket;
     bool was_killed; // by this program, since it didn't end
     bool is_cut; // its last line may be half there: no other server came after it
-    bool was_there; // the trace's file, and empty
+    bool was_there; // the trace's file, without locks
+    size_t head; // the bytes that it begins with, or 0 if it isn't there yet, or has none
     char program[PATH_MAX];
     char work[PATH_MAX]; // its folder, or ""
     struct trace trace;
@@ -127,6 +130,12 @@ void server_drop(struct server *server);
 // Waits for its end, after its connection was closed, and judges the trace. Gives the status, which
 // is at least this one.
 int server_finish(struct server *server, const struct options *options, int status);
+
+// ---- head.c ----
+
+// Before the server is started: has the trace's file begin with the head of an empty directory, which names the rules. Makes the file if
+// it isn't there. Fails if it has other lines. `stops` says whether to give up.
+void head_begin(struct server *server, const struct options *options, bool (*stops)(void));
 
 // ---- faults.c ----
 

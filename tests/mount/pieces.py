@@ -4,7 +4,7 @@ import ctypes, os, random, re, select, shutil, signal, struct, subprocess, tempf
 from collections import Counter
 from tests.mount.ends import held_and_waited_for
 from tests.mount.kit import *
-from tests.mount.resumed import KILLS, SEED, Resumed, asked_once, built, has_room, held_at_the_end, lost, starting_often
+from tests.mount.resumed import A_HEAD, KILLS, SEED, Resumed, asked_once, built, has_room, held_at_the_end, lost, starting_often
 
 LIBC = ctypes.CDLL(None)
 IN_MOVED_TO, IN_CREATE = 0x80, 0x100
@@ -230,13 +230,19 @@ def try_a_piece_that_a_new_server_needs_is_gone():
 
 # ---- Words and names ----
 
+LIMITS = "--runs", "16384", "--parked", "1024", "--files", "4096", "--open", "4096"
+
+
 def words_handed_on(*words):
-    """Those behind the trace's path that the server is started with."""
+    """Those behind the trace's path that the server is started with, but for the limits of each mount."""
     folder, file, at = tempfile.mkdtemp(dir=WORK), tempfile.mkdtemp(dir=WORK) + "/file", tempfile.mkdtemp(dir=WORK)
-    write_server(f"{folder}/lockd", f"print(*sys.argv[1:], file=open({folder!r} + '/words', 'w'))\nsys.exit(2)\n")
+    write_server(f"{folder}/lockd", f"print(*sys.argv[1:], file=open({folder!r} + '/words', 'w'))\n{A_HEAD}sys.exit(2)\n")
     contains(refusal("--resume", file, *words, folder=at, LOCKD=f"{folder}/lockd"), "the server ended with status 2 before it listened")
+    same(os.path.exists(file), False)
     with open(f"{folder}/words", encoding="ascii") as it:
-        return it.read().partition(f"serve socket --resume {file}")[2].split()
+        handed = it.read().partition(f"serve socket --resume {file}")[2].split()
+    same(tuple(handed[-len(LIMITS):]), LIMITS)
+    return handed[:-len(LIMITS)]
 
 
 def try_sizes_of_pieces():
