@@ -383,7 +383,8 @@ int server_restart(struct server *server, const struct options *options, bool (*
     return -1;
 }
 
-// The words of `lockd check`, for which there is room: pieces in a row are judged as one history, and a file that may be cut off alone.
+// The words of `lockd check`, for which there is room: pieces in a row by the same rules are judged as one history, and a file that may be
+// cut off alone.
 static void put_check(const char *words[], const struct server *server, const struct options *options, bool is_cut, const struct pieces *pieces)
 {
     char path[PIECE_PATH];
@@ -392,7 +393,8 @@ static void put_check(const char *words[], const struct server *server, const st
     words[count++] = "check";
     if (is_cut)
         words[count++] = "--cut";
-    for (int i = 0; i < options->rule_count; i++)
+    // A head names the rules. A server of a program that was changed may have begun a piece by others.
+    for (int i = 0; i < options->rule_count && !options->resume; i++)
         words[count++] = options->rules[i];
     for (unsigned long at = 0; at < pieces->count; at++) {
         trace_piece(&server->trace, pieces, at, path);
@@ -408,6 +410,7 @@ static void run_check(const struct server *server, const struct options *options
     struct pieces pieces = {0};
     if (server->trace.turns && !is_cut)
         pieces = trace_pieces(&server->trace);
+    trace_leave_alike(&server->trace, &pieces);
     const char **words = calloc(16 + MOST_RULES + pieces.count, sizeof *words);
     int trace = open(server->trace.path, O_RDONLY);
     if (!words || trace < 0 || dup2(trace, STDIN_FILENO) < 0)
