@@ -62,7 +62,8 @@ static size_t put_head(char *head, const struct server *server, const struct opt
     close(to);
     errno = 0;
     if (!WIFEXITED(status) || WEXITSTATUS(status))
-        fail("`%s state` ended with status %d; nothing is mounted", server->program, WIFEXITED(status) ? WEXITSTATUS(status) : 128 + WTERMSIG(status));
+        fail("`%s state` ended with status %d; nothing is mounted", server->program,
+             WIFEXITED(status) ? WEXITSTATUS(status) : 128 + WTERMSIG(status));
     if (size < 9 || size == ROOM || memcmp(head, "state 0 ", 8) || memcmp(head + size - 4, "\ngo\n", 4))
         fail("`%s state` prints no head: is it older than this lockd_mount? Nothing is mounted", server->program);
     return (size_t)size;
@@ -73,19 +74,6 @@ static bool has_only(int file, const char *bytes, size_t size)
 {
     char found[ROOM];
     return pread(file, found, sizeof found, 0) == (ssize_t)size && !memcmp(found, bytes, size);
-}
-
-// One write is whole, or none of it is there, also if this program is killed.
-static void write_head(int file, const char *path, const char *head, size_t size)
-{
-    errno = 0;
-    if (write(file, head, size) == (ssize_t)size)
-        return;
-    int error = errno ? errno : ENOSPC;
-    if (ftruncate(file, 0))
-        say("%s isn't empty any more", path);
-    errno = error;
-    fail("cannot write %s", path);
 }
 
 void head_begin(struct server *server, const struct options *options, bool (*stops)(void))
@@ -106,7 +94,26 @@ void head_begin(struct server *server, const struct options *options, bool (*sto
     if (!is_empty && !has_only(file, head, size))
         fail("%s isn't an empty file: name a new one, since the processes that held its locks are gone", path);
     server->head = size;
-    if (is_empty)
-        write_head(file, path, head, size);
+    // One write of so few bytes is whole, also if this program is killed.
+    ssize_t written = is_empty ? write(file, head, size) : (ssize_t)size;
+    int error = written < 0 ? errno : ENOSPC;
     close(file);
+    errno = error;
+    if (written != (ssize_t)size)
+        fail("cannot write %s", path);
+}
+
+void head_drop(const struct server *server, bool may_have_served)
+{
+    const char *path = server->trace.path;
+    struct stat at;
+    int file = open(path, O_RDWR | O_NOFOLLOW | O_CLOEXEC);
+    // Another carrier may have begun with it at the same time: then its server has it.
+    bool is_ours = file >= 0 && !flock(file, LOCK_EX | LOCK_NB) && !fstat(file, &at) && (may_have_served || (size_t)at.st_size <= server->head);
+    if (is_ours && !server->was_there)
+        unlink(path);
+    else if (is_ours && ftruncate(file, 0))
+        say("%s isn't empty any more", path);
+    if (file >= 0)
+        close(file);
 }

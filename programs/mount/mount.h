@@ -138,6 +138,9 @@ int server_finish(struct server *server, const struct options *options, int stat
 // Before the server is started: has the trace's file begin with the head of an empty directory, which names the rules. Makes the file if
 // it isn't there. Fails if it has other lines. `stops` says whether to give up.
 void head_begin(struct server *server, const struct options *options, bool (*stops)(void));
+// Once no server of this program runs, and nothing was mounted: leaves the file as it was before. If none `may_have_served`, it has the
+// head alone.
+void head_drop(const struct server *server, bool may_have_served);
 
 // ---- faults.c ----
 

@@ -280,12 +280,12 @@ static void kill_server(struct server *server)
 void server_drop(struct server *server)
 {
     // One that has ended by itself has removed its file, unless it was to go on with it.
-    bool has_file = server->pid || server->head;
-    if (server->pid)
+    bool may_have_served = server->pid;
+    if (may_have_served)
         kill_server(server);
-    if (has_file && server->was_there && truncate(server->trace.path, 0))
-        say("%s isn't empty any more", server->trace.path);
-    else if (has_file && server->trace.path[0] && !server->was_there)
+    if (server->head)
+        head_drop(server, may_have_served);
+    else if (may_have_served && server->trace.path[0])
         unlink(server->trace.path);
     remove_folder(server);
 }

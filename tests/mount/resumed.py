@@ -578,18 +578,18 @@ def try_a_file_names_its_rules():
              [("legal\n", 0), ("differs 1\n", 1), 0])
 
 
-def slow_state(folder):
-    """A program that makes no head until it may: `FOLDER/go` is there."""
+def slow(command, folder):
+    """A program that doesn't do this until it may: `FOLDER/go` is there."""
     path = f"{folder}/lockd"
     with open(path, "w", encoding="ascii") as it:
-        it.write(f'#!/bin/sh\n[ "$1" != state ] || {{ : > {folder}/begun; until [ -e {folder}/go ]; do sleep 0.01; done; }}\n'
+        it.write(f'#!/bin/sh\n[ "$1" != {command} ] || {{ : > {folder}/begun; until [ -e {folder}/go ]; do sleep 0.01; done; }}\n'
                  f'exec {os.environ["LOCKD"]} "$@"\n')
     os.chmod(path, 0o700)
     return path
 
 
 def beginning(file, program):
-    """A carrier that waits for its head."""
+    """A carrier that waits for this."""
     it = subprocess.Popen([PROGRAM, "--resume", file, tempfile.mkdtemp(dir=WORK)], stdout=subprocess.DEVNULL, stderr=subprocess.PIPE, text=True,
                           env={**os.environ, "TMPDIR": WORK, "LOCKD": program})
     until(lambda: os.path.exists(f"{os.path.dirname(program)}/begun"))
@@ -601,7 +601,7 @@ def try_a_carrier_that_ends_before_its_file_has_a_head():
     for was_there in False, True:
         for how, status in (signal.SIGKILL, -signal.SIGKILL), (signal.SIGTERM, 2):
             folder = tempfile.mkdtemp(dir=WORK)
-            file, program = f"{folder}/file", slow_state(folder)
+            file, program = f"{folder}/file", slow("state", folder)
             if was_there:
                 open(file, "x").close()
             it = beginning(file, program)
@@ -618,21 +618,25 @@ def try_a_carrier_that_ends_before_its_file_has_a_head():
 
 
 def try_two_carriers_that_begin_with_one_file():
-    """One of them has it. The other one leaves it as it is."""
+    """One of them has it. The other one leaves it as it is, whether it has no head by then, no server, or ends before."""
     for was_there in False, True:
-        folder = tempfile.mkdtemp(dir=WORK)
-        file, program = f"{folder}/file", slow_state(folder)
-        if was_there:
-            open(file, "x").close()
-        one = beginning(file, program)
-        mount = Resumed(file=file)
-        shell(mount, "flock job echo in", "in")
-        before = text_of(file)
-        open(f"{folder}/go", "x").close()
-        wrong = one.communicate(timeout=PATIENCE)[1]
-        contains(wrong, f"{file} is in use by another server")
-        same((one.returncode, text_of(file)[:len(before)]), (2, before))
-        same(mount.end(), (0, "legal"))
+        for command, ends, said in ("state", False, "/file is in use by another server"), ("serve", False, "cannot trace"), ("serve", True, "ended before anything"):
+            folder = tempfile.mkdtemp(dir=WORK)
+            file, program = f"{folder}/file", slow(command, folder)
+            if was_there:
+                open(file, "x").close()
+            one = beginning(file, program)
+            mount = Resumed(file=file)
+            shell(mount, "flock job echo in", "in")
+            before = text_of(file)
+            if ends:
+                one.terminate()
+            else:
+                open(f"{folder}/go", "x").close()
+            contains(one.communicate(timeout=PATIENCE)[1], said)
+            same((one.returncode, text_of(file)[:len(before)]), (2, before))
+            mount.cut()
+            same(mount.end(), (0, "legal"))
 
 
 def try_a_mount_that_fails_leaves_its_file_as_it_was():
@@ -694,6 +698,15 @@ def try_calls_wait_while_the_disk_is_full():
     one.kill()
     same(mount.end(), (0, "legal"))
     asked_once(mount.lines())
+    unmount(disk)
+
+
+def try_a_new_file_on_a_full_disk():
+    """Nothing is mounted, and nothing is left."""
+    disk = full_disk()
+    fill(disk)
+    contains(refusal("--resume", f"{disk}/file", folder=tempfile.mkdtemp(dir=WORK)), f"cannot write {disk}/file: No space left on device")
+    same(os.listdir(disk), ["rest"])
     unmount(disk)
 
 
