@@ -1,6 +1,7 @@
 #!/bin/sh
-# How much memory `lockd serve` takes where it holds as much as its rules allow: under the standard rules, with 65,536 files and open files, and with as
-# many locks too; with 1 and 4 workers, and no trace. Prints its megabytes (VmRSS) once all is held, and sees that one more of each is refused.
+# How much memory `lockd serve` takes where it holds as much as its rules allow: under the standard rules, by the limits of a mount, with 65,536 files
+# and open files, and with as many locks too; with 1 and 4 workers, and no trace. Prints its megabytes (VmRSS) once all is held, and sees that one
+# more of each is refused.
 set -eu
 . "$(dirname "$0")/../dev/built_lockd.sh"
 LOCKD=$program python3 - <<'END'
@@ -14,7 +15,8 @@ from tests.tries import INIT, Server, replies, take
 
 AT_A_TIME = 64
 FILES = ["--files", "65536", "--open", "65536"]
-CASES = {"the standard rules": ([], 256, 1_024, 4_096), "65536 files and open files": (FILES, 65_536, 65_536, 4_096),
+MOUNT = ["--files", "4096", "--open", "4096", "--runs", "16384", "--parked", "1024"]
+CASES = {"the standard rules": ([], 256, 1_024, 4_096), "the limits of a mount": (MOUNT, 4_096, 4_096, 16_384), "65536 files and open files": (FILES, 65_536, 65_536, 4_096),
          "65536 files, open files and locks": ([*FILES, "--runs", "65536"], 65_536, 65_536, 65_536)}
 
 def create(unique, number):

@@ -27,6 +27,8 @@ enum status { STATUS_UNMOUNTED = 0, STATUS_SERVER = 1, STATUS_NOT_MOUNTED = 2, S
 
 // ---- options.c ----
 
+enum { MOST_RULES = 20 };
+
 struct options {
     const char *folder;
     const char *trace; // NULL: a new file in a new folder; "none": nowhere
@@ -37,7 +39,7 @@ struct options {
     const char *times; // NULL: they aren't written
     const char *source; // as /proc/mounts names it
     const char *workers;
-    const char *rules[10]; // those that `serve` and `check` take alike
+    const char *rules[MOST_RULES]; // those that `serve`, `state` and `check` take alike: all limits are among them
     int rule_count;
     unsigned files, open; // those of the rules
     bool allow_other, count, discard_writes, nonempty, no_check;
@@ -98,6 +100,8 @@ enum found trace_look(struct trace *trace);
 // What became of it, in some words behind its path.
 const char *trace_became(enum found found);
 struct pieces trace_pieces(const struct trace *trace);
+// Leaves those that have the rules of the file, up to the first one before it that hasn't: by their heads.
+void trace_leave_alike(const struct trace *trace, struct pieces *pieces);
 // The path of one of them, the oldest first. There is room for PIECE_PATH bytes.
 void trace_piece(const struct trace *trace, const struct pieces *pieces, unsigned long at, char *to);
 // How many pieces and bytes there are.
@@ -111,7 +115,8 @@ struct server {
     int socket;
     bool was_killed; // by this program, since it didn't end
     bool is_cut; // its last line may be half there: no other server came after it
-    bool was_there; // the trace's file, and empty
+    bool was_there; // the trace's file, without locks
+    size_t head; // the bytes that it begins with, or 0 if it isn't there yet, or has none
     char program[PATH_MAX];
     char work[PATH_MAX]; // its folder, or ""
     struct trace trace;
@@ -127,6 +132,15 @@ void server_drop(struct server *server);
 // Waits for its end, after its connection was closed, and judges the trace. Gives the status, which
 // is at least this one.
 int server_finish(struct server *server, const struct options *options, int status);
+
+// ---- head.c ----
+
+// Before the server is started: has the trace's file begin with the head of an empty directory, which names the rules. Makes the file if
+// it isn't there. Fails if it has other lines. `stops` says whether to give up.
+void head_begin(struct server *server, const struct options *options, bool (*stops)(void));
+// Once no server of this program runs, and nothing was mounted: leaves the file as it was before. If none `may_have_served`, it has the
+// head alone.
+void head_drop(const struct server *server, bool may_have_served);
 
 // ---- faults.c ----
 

@@ -28,7 +28,8 @@ static const char HELP[] =
     "  --trace-full WORD     what the server does while the trace can't be written: go-on; with --resume, wait or end\n"
     "  --times FILE          a new file for the times of requests and replies, for lockd_report\n"
     "  --fair, --runs N, --parked N, --files N, --open N\n"
-    "                        the rules of the server, as `lockd serve --help` says\n"
+    "                        the rules of the server, as `lockd serve --help` says; if not said, 16384 locks held, 1024 requests\n"
+    "                        that wait, 4096 files and 4096 open files\n"
     "  --no-check            don't judge the trace\n"
     "  --allow-other         let other users in\n"
     "  --mode M, --uid N, --gid N\n"
@@ -102,7 +103,7 @@ static void take_number(struct options *options, const char *name, const char *w
 
 static void take_rule(struct options *options, const char *name, const char *word)
 {
-    if (options->rule_count + 2 > (int)(sizeof options->rules / sizeof *options->rules))
+    if (options->rule_count + 2 > MOST_RULES)
         misused("too many options");
     options->rules[options->rule_count++] = name;
     if (word)
@@ -110,7 +111,31 @@ static void take_rule(struct options *options, const char *name, const char *wor
 }
 
 // What rules of the server allow, which makes the tables here.
-enum { MOST_FILES = 65536, STANDARD_FILES = 256, STANDARD_OPEN = 1024 };
+enum { MOST_FILES = 65536 };
+
+static bool has_rule(const struct options *options, const char *name)
+{
+    for (int i = 0; i < options->rule_count; i++)
+        if (!strcmp(options->rules[i], name))
+            return true;
+    return false;
+}
+
+// The programs of a machine need more than what the server allows by itself.
+static void add_limits(struct options *options)
+{
+    static const char *const limits[][2] = {{"--runs", "16384"}, {"--parked", "1024"}, {"--files", "4096"}, {"--open", "4096"}};
+    for (size_t i = 0; i < sizeof limits / sizeof *limits; i++)
+        if (!has_rule(options, limits[i][0]))
+            take_rule(options, limits[i][0], limits[i][1]);
+    for (int i = 0; i + 1 < options->rule_count; i++) {
+        unsigned value = (unsigned)strtoul(options->rules[i + 1], NULL, 10);
+        if (!strcmp(options->rules[i], "--files"))
+            options->files = value;
+        if (!strcmp(options->rules[i], "--open"))
+            options->open = value;
+    }
+}
 
 enum { ALLOW = 1, COUNT, DISCARD, NONEMPTY, NO_CHECK, WORKERS, TRACE, RESUME, ROTATE, TRACE_FULL, TIMES, SOURCE, FAIR, RUNS, PARKED, FILES, OPEN, NUMBER, HELPS, VERSIONS };
 
@@ -136,11 +161,11 @@ static void take(struct options *options, int option, const char *name)
     case RUNS: take_rule(options, "--runs", optarg); break;
     case PARKED: take_rule(options, "--parked", optarg); break;
     case FILES:
-        options->files = (unsigned)number(optarg, name, 10, 1, MOST_FILES);
+        number(optarg, name, 10, 1, MOST_FILES);
         take_rule(options, "--files", optarg);
         break;
     case OPEN:
-        options->open = (unsigned)number(optarg, name, 10, 1, MOST_FILES);
+        number(optarg, name, 10, 1, MOST_FILES);
         take_rule(options, "--open", optarg);
         break;
     case NUMBER: take_number(options, name, optarg); break;
@@ -188,13 +213,14 @@ void read_options(int argc, char **argv, struct options *options)
         {"rotate", required_argument, NULL, ROTATE},     {"keep", required_argument, NULL, NUMBER},
         {NULL, 0, NULL, 0},
     };
-    *options = (struct options){.workers = "1", .source = "lockd", .files = STANDARD_FILES, .open = STANDARD_OPEN, .mode = -1, .uid = -1, .gid = -1};
+    *options = (struct options){.workers = "1", .source = "lockd", .mode = -1, .uid = -1, .gid = -1};
     int option, at = 0;
     while ((option = getopt_long(argc, argv, "", known, &at)) != -1)
         take(options, option, known[at].name);
     if (argc - optind != 1 || !*argv[optind])
         misused(argc - optind > 1 ? "more than one folder" : "no folder");
     refuse_pairs(options);
+    add_limits(options);
     if (!*options->source)
         misused("--source takes a name");
     options->folder = argv[optind];

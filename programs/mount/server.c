@@ -92,8 +92,7 @@ static void refuse_pieces(const struct trace *trace)
         fail("%s.%lu is there already, as if it were a piece of this trace: name another FILE", trace->path, pieces.last);
 }
 
-// A file that is there already is that of another mount. With --resume an empty one does: it has no
-// locks.
+// A file that is there already is that of another mount. With --resume one without locks does, as `head_begin` sees.
 static void place_trace(struct server *server, const struct options *options)
 {
     const char *named = options->resume ? options->resume : options->trace;
@@ -106,8 +105,8 @@ static void place_trace(struct server *server, const struct options *options)
     errno = 0;
     if (server->was_there && !options->resume)
         fail("a file is at %s already", named);
-    if (server->was_there && (!S_ISREG(at.st_mode) || at.st_size))
-        fail("%s isn't an empty file: name a new one, since the processes that held its locks are gone", named);
+    if (server->was_there && !S_ISREG(at.st_mode))
+        fail("%s isn't an empty file: name a new one", named);
     place_absolute(server->trace.path, named);
     server->trace.turns = options->rotate != NULL;
     refuse_pieces(&server->trace);
@@ -143,7 +142,7 @@ static void put_options(const char *words[], size_t count, const struct server *
 static void run_serve(const struct server *server, const struct options *options, pid_t carrier, int faults)
 {
     const int ignored[] = {SIGHUP, SIGINT, SIGQUIT, SIGPIPE, SIGXFSZ, SIGTERM};
-    const char *words[32] = {server->program, "serve", "socket"};
+    const char *words[16 + MOST_RULES] = {server->program, "serve", "socket"};
     put_options(words, 3, server, options);
     // Signals end the mount alone. The server ends when the mount does, and has to write the rest
     // of its trace. A trace that grows beyond a limit is a write that fails. One that is started
@@ -244,6 +243,8 @@ void server_start(struct server *server, const struct options *options, bool (*s
     errno = 0;
     if (strchr(server->trace.path, '\n'))
         fail("the path of the trace has a newline: name another FILE");
+    if (options->resume)
+        head_begin(server, options, stops);
     enum begun begun = begin(server, options, stops, PATIENCE);
     if (begun == NOT_STARTED)
         fail("cannot start %s", server->program);
@@ -278,13 +279,14 @@ static void kill_server(struct server *server)
 
 void server_drop(struct server *server)
 {
-    if (server->pid) {
+    // One that has ended by itself has removed its file, unless it was to go on with it.
+    bool may_have_served = server->pid;
+    if (may_have_served)
         kill_server(server);
-        if (server->was_there && truncate(server->trace.path, 0))
-            say("%s isn't empty any more", server->trace.path);
-        else if (server->trace.path[0] && !server->was_there)
-            unlink(server->trace.path);
-    }
+    if (server->head)
+        head_drop(server, may_have_served);
+    else if (may_have_served && server->trace.path[0])
+        unlink(server->trace.path);
     remove_folder(server);
 }
 
@@ -381,7 +383,8 @@ int server_restart(struct server *server, const struct options *options, bool (*
     return -1;
 }
 
-// The words of `lockd check`, for which there is room: pieces in a row are judged as one history, and a file that may be cut off alone.
+// The words of `lockd check`, for which there is room: pieces in a row by the same rules are judged as one history, and a file that may be
+// cut off alone.
 static void put_check(const char *words[], const struct server *server, const struct options *options, bool is_cut, const struct pieces *pieces)
 {
     char path[PIECE_PATH];
@@ -390,7 +393,8 @@ static void put_check(const char *words[], const struct server *server, const st
     words[count++] = "check";
     if (is_cut)
         words[count++] = "--cut";
-    for (int i = 0; i < options->rule_count; i++)
+    // A head names the rules. A server of a program that was changed may have begun a piece by others.
+    for (int i = 0; i < options->rule_count && !options->resume; i++)
         words[count++] = options->rules[i];
     for (unsigned long at = 0; at < pieces->count; at++) {
         trace_piece(&server->trace, pieces, at, path);
@@ -406,7 +410,8 @@ static void run_check(const struct server *server, const struct options *options
     struct pieces pieces = {0};
     if (server->trace.turns && !is_cut)
         pieces = trace_pieces(&server->trace);
-    const char **words = calloc(32 + pieces.count, sizeof *words);
+    trace_leave_alike(&server->trace, &pieces);
+    const char **words = calloc(16 + MOST_RULES + pieces.count, sizeof *words);
     int trace = open(server->trace.path, O_RDONLY);
     if (!words || trace < 0 || dup2(trace, STDIN_FILENO) < 0)
         _exit(127);

@@ -88,6 +88,33 @@ void trace_piece(const struct trace *trace, const struct pieces *pieces, unsigne
     put_piece(to, trace, pieces->last - pieces->count + 1 + at);
 }
 
+enum { RULES = 5 };
+
+// The rules that the head of the file at the path names. False if it has none.
+static bool read_rules(const char *path, unsigned rules[RULES])
+{
+    char front[FRONT];
+    int file = open(path, O_RDONLY | O_NONBLOCK | O_CLOEXEC);
+    ssize_t size = file < 0 ? -1 : pread(file, front, sizeof front - 1, 0);
+    front[size > 0 ? size : 0] = 0;
+    if (file >= 0)
+        close(file);
+    return sscanf(front, "state %*u %u %u %u %u %u", &rules[0], &rules[1], &rules[2], &rules[3], &rules[4]) == RULES;
+}
+
+void trace_leave_alike(const struct trace *trace, struct pieces *pieces)
+{
+    char path[PIECE_PATH];
+    unsigned wanted[RULES], found[RULES];
+    unsigned long count = 0;
+    bool is_alike = read_rules(trace->path, wanted);
+    for (; is_alike && count < pieces->count; count += is_alike) {
+        put_piece(path, trace, pieces->last - count);
+        is_alike = read_rules(path, found) && !memcmp(found, wanted, sizeof wanted);
+    }
+    pieces->count = count;
+}
+
 // FILE is a piece that began behind another one. If FILE was spoilt until then, so is the one before.
 static void see_last(struct trace *trace)
 {

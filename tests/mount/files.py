@@ -203,12 +203,12 @@ def try_seekdir_goes_back_to_where_it_was(mount):
 
 def try_df(mount):
     # The kernel still forgets what was unlinked before.
-    until(lambda: os.statvfs(mount.folder).f_ffree >= 256 - len(os.listdir(mount.folder)))
+    until(lambda: os.statvfs(mount.folder).f_ffree >= 4096 - len(os.listdir(mount.folder)))
     before = os.statvfs(mount.folder)
-    same((before.f_files, before.f_namemax, before.f_blocks), (256, 255, 0))
+    same((before.f_files, before.f_namemax, before.f_blocks), (4096, 255, 0))
     os.close(os.open(f"{mount.folder}/counted", os.O_RDWR | os.O_CREAT))
     same(os.statvfs(mount.folder).f_ffree, before.f_ffree - 1)
-    shell(mount, "df . | tail -n 1 | cut -d ' ' -f 1; df --output=itotal . | tail -n 1", "lockd 256")
+    shell(mount, "df . | tail -n 1 | cut -d ' ' -f 1; df --output=itotal . | tail -n 1", "lockd 4096")
 
 
 def try_touch_and_sizes(mount):

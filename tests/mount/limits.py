@@ -1,18 +1,18 @@
 """Limits of a mount: how many files, open files, locks and waiting requests; where the trace goes."""
-import fcntl, os, resource, subprocess, tempfile, time
+import fcntl, os, resource, subprocess, tempfile, threading, time
 from tests.mount.kit import *
 
 
 # ---- Files and locks ----
 
-def try_256_files():
+def try_4096_files():
     mount, held = Mount(), []
     while True:
         fd = outcome(os.open, f"{mount.folder}/many{len(held)}", os.O_RDWR | os.O_CREAT)
         if isinstance(fd, str):
             break
         held.append(fd)
-    same((fd, len(held)), ("ENOSPC", 256))
+    same((fd, len(held)), ("ENOSPC", 4096))
     for at, fd in enumerate(held):
         record(fd, WRITE, at, 1)
         os.unlink(f"{mount.folder}/many{at}")
@@ -87,7 +87,7 @@ def try_20000_files_of_16_processes():
 try_20000_files_of_16_processes.seconds = 40 * PATIENCE
 
 
-def try_1024_open_files(mount):
+def try_4096_open_files(mount):
     held = []
     while True:
         fd = outcome(os.open, f"{mount.folder}/opened", os.O_RDWR | os.O_CREAT)
@@ -95,14 +95,14 @@ def try_1024_open_files(mount):
             break
         held.append(fd)
         fcntl.flock(fd, SHARED | AT_ONCE)
-    same((fd, len(held)), ("ENFILE", 1024))
+    same((fd, len(held)), ("ENFILE", 4096))
     for fd in held:
         os.close(fd)
     shell(mount, f"flock -w {PATIENCE} opened echo in", "in")
 
 
 def try_no_more_locks_than_runs():
-    for words, most in ((), 4096), (("--runs", "100"), 100):
+    for words, most in ((), 16_384), (("--runs", "100"), 100):
         mount = Mount(*words)
         fd = os.open(f"{mount.folder}/runs", os.O_RDWR | os.O_CREAT)
         held = 0
@@ -116,6 +116,30 @@ def try_no_more_locks_than_runs():
         same(other.ask("record", "a", WRITE), "ok")
         other.kill()
         same(mount.end(), (0, "legal"))
+
+
+def lock_and_let_go(folder, outcomes):
+    fd = os.open(f"{folder}/wanted", os.O_RDWR | os.O_CREAT)
+    outcomes.append(outcome(fcntl.flock, fd, ALONE))
+    os.close(fd)
+
+
+def try_1024_waiting_requests():
+    """One more is refused. All that wait get the lock."""
+    mount, outcomes = Mount(), []
+    (holder,) = children(f"{mount.folder}/wanted", 1)
+    same(holder.ask("flock", "a", ALONE), "ok")
+    threading.stack_size(1 << 16)
+    waiting = [threading.Thread(target=lock_and_let_go, args=(mount.folder, outcomes), daemon=True) for _ in range(1025)]
+    for it in waiting:
+        it.start()
+    until(lambda: outcomes)
+    same((outcomes[:], holder.ask("flock", "a", NOT_HELD)), (["ENOLCK"], "ok"))
+    for it in waiting:
+        it.join(PATIENCE)
+    same(outcomes, ["ENOLCK", *[None] * 1024])
+    holder.kill()
+    same(mount.end(), (0, "legal"))
 
 
 def try_rules_of_a_mount():

@@ -4,7 +4,7 @@ import ctypes, os, random, re, select, shutil, signal, struct, subprocess, tempf
 from collections import Counter
 from tests.mount.ends import held_and_waited_for
 from tests.mount.kit import *
-from tests.mount.resumed import KILLS, SEED, Resumed, asked_once, built, has_room, held_at_the_end, lost, starting_often
+from tests.mount.resumed import A_HEAD, KILLS, SEED, Resumed, asked_once, built, has_room, held_at_the_end, lost, starting_often
 
 LIBC = ctypes.CDLL(None)
 IN_MOVED_TO, IN_CREATE = 0x80, 0x100
@@ -228,15 +228,85 @@ def try_a_piece_that_a_new_server_needs_is_gone():
          f"{mount.file} lacks the piece before it")
 
 
+# ---- Other limits ----
+
+class Allowing(Resumed):
+    """A mount where 16 files may be made, until its program says otherwise."""
+
+    def __init__(self, *words):
+        self.notes = tempfile.mkdtemp(dir=WORK)
+        self.allow(16)
+        with open(f"{self.notes}/lockd", "w", encoding="ascii") as it:
+            it.write(f'#!/bin/sh\necho "$@" > {self.notes}/words\n'
+                     f'exec {os.environ["LOCKD"]} $(sed "s/--files 16/--files $(cat {self.notes}/files)/" {self.notes}/words)\n')
+        os.chmod(f"{self.notes}/lockd", 0o700)
+        super().__init__("--files", "16", *words, LOCKD=f"{self.notes}/lockd")
+
+    def allow(self, files):
+        with open(f"{self.notes}/files", "w", encoding="ascii") as it:
+            print(files, file=it)
+
+    def started(self):
+        """The words with which its program was started last."""
+        with open(f"{self.notes}/words", encoding="ascii") as it:
+            return it.read().split()
+
+    def fill(self):
+        """As many files as there may be. Two processes have one: one has locked it, and another waits for it."""
+        both = held_and_waited_for(self)
+        for at in range(15):
+            os.close(os.open(f"{self.folder}/{at}", os.O_RDWR | os.O_CREAT))
+        same(has_room(self.folder, 1), False)
+        return both
+
+
+def try_a_server_with_greater_limits_keeps_all_locks():
+    """The next one makes room, and begins a piece at once. The end judges those that have its limits, in a row."""
+    for words in (), ("--rotate", "1"):
+        mount = Allowing(*words)
+        one, two = mount.fill()
+        mount.allow(64)
+        mount.cut()
+        assert two.waits()
+        same((has_room(mount.folder, 48), has_room(mount.folder, 49)), (True, False))
+        same(("WRITE*" in listed(mount).stdout, sorted(os.listdir(os.path.dirname(mount.file)))), (True, ["file", "file.1"]))
+        if words:
+            it = busy(mount)
+            fill(it)
+            until(lambda: os.path.exists(f"{mount.file}.2"))
+            it.kill()
+        same([one.ask("flock", "a", NOT_HELD), two.answer()], ["ok", "ok"])
+        for it in one, two:
+            it.kill()
+        same((mount.end(), mount.started()), ((0, "legal"), ["check", *[f"{mount.file}.2", mount.file][:2 * len(words)]]))
+
+
+def try_a_server_with_limits_that_do_not_fit():
+    """No lock is lost for want of room: the mount ends, and FILE stays as it was."""
+    mount = Allowing()
+    one, two = mount.fill()
+    before = mount.lines()
+    mount.allow(15)
+    os.kill(mount.server(), signal.SIGKILL)
+    lost(mount, one, two, 1, "cannot trace\n", "the server ended with status 2 before it listened", f"can't go on with {mount.file}")
+    same((mount.lines(), os.listdir(os.path.dirname(mount.file))), (before, ["file"]))
+
+
 # ---- Words and names ----
 
+LIMITS = "--runs", "16384", "--parked", "1024", "--files", "4096", "--open", "4096"
+
+
 def words_handed_on(*words):
-    """Those behind the trace's path that the server is started with."""
+    """Those behind the trace's path that the server is started with, but for the limits of each mount."""
     folder, file, at = tempfile.mkdtemp(dir=WORK), tempfile.mkdtemp(dir=WORK) + "/file", tempfile.mkdtemp(dir=WORK)
-    write_server(f"{folder}/lockd", f"print(*sys.argv[1:], file=open({folder!r} + '/words', 'w'))\nsys.exit(2)\n")
+    write_server(f"{folder}/lockd", f"print(*sys.argv[1:], file=open({folder!r} + '/words', 'w'))\n{A_HEAD}sys.exit(2)\n")
     contains(refusal("--resume", file, *words, folder=at, LOCKD=f"{folder}/lockd"), "the server ended with status 2 before it listened")
+    same(os.path.exists(file), False)
     with open(f"{folder}/words", encoding="ascii") as it:
-        return it.read().partition(f"serve socket --resume {file}")[2].split()
+        handed = it.read().partition(f"serve socket --resume {file}")[2].split()
+    same(tuple(handed[-len(LIMITS):]), LIMITS)
+    return handed[:-len(LIMITS)]
 
 
 def try_sizes_of_pieces():

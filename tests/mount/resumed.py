@@ -274,11 +274,17 @@ def try_messages_that_the_server_had_not_read():
     assert asked_once(mount.lines())[1], "no batch"
 
 
+# A program that stands for `lockd` makes heads of some rules.
+A_HEAD = """
+if sys.argv[1] == "state":
+    sys.exit(print("state 0 0 9 9 9 9 2 1\\ngo"))
+"""
 # A server that has no names. It notes each message, and dies twice: after a half of its reply to a LOOKUP of `sent`, and after a half of a LOOKUP of `read`.
 # One that REFUSES refuses all, from the second INIT on.
-FALTERS = """
+FALTERS = f"""{A_HEAD}
 import os, signal, socket, sys
 from tests import fuse
+""" + """
 if sys.argv[1] != "serve":
     sys.exit(print("legal"))
 open(sys.argv[sys.argv.index("--resume") + 1], "a").close()
@@ -540,6 +546,119 @@ def try_an_empty_file_that_is_there():
         same(mount.end(), (0, "legal"))
 
 
+# ---- The head of a new file ----
+
+HEAD = b"state 0 0 16384 1024 4096 4096 2 1\ngo\n"
+
+
+def text_of(path):
+    with open(path, "rb") as it:
+        return it.read()
+
+
+def told_of(command, file, *words):
+    """What `lockd check` or `lockd locks` says of it, and its status."""
+    with open(file, "rb") as lines:
+        ran = subprocess.run([os.environ["LOCKD"], command, *words], stdin=lines, capture_output=True, text=True, timeout=PATIENCE)
+    return ran.stdout, ran.returncode
+
+
+def try_a_file_names_its_rules():
+    """From its first line on. Who judges it needs none, and is told of others."""
+    for words, line in ((), HEAD[:-4]), (("--fair", "--files", "300", "--parked", "7"), b"state 0 1 16384 7 300 4096 2 1"):
+        mount = Resumed(*words)
+        same(mount.lines()[:2], [line, b"go"])
+        held = [os.open(f"{mount.folder}/{at}", os.O_RDWR | os.O_CREAT) for at in range(300)]
+        mount.cut()
+        same(has_room(mount.folder, 1), not words)
+        for fd in held:
+            os.close(fd)
+        same(mount.end(), (0, "legal"))
+        same([told_of("check", mount.file), told_of("check", mount.file, "--files", "4095"), told_of("locks", mount.file)[1]],
+             [("legal\n", 0), ("differs 1\n", 1), 0])
+
+
+def slow(command, folder):
+    """A program that doesn't do this until it may: `FOLDER/go` is there."""
+    path = f"{folder}/lockd"
+    with open(path, "w", encoding="ascii") as it:
+        it.write(f'#!/bin/sh\n[ "$1" != {command} ] || {{ : > {folder}/begun; until [ -e {folder}/go ]; do sleep 0.01; done; }}\n'
+                 f'exec {os.environ["LOCKD"]} "$@"\n')
+    os.chmod(path, 0o700)
+    return path
+
+
+def beginning(file, program):
+    """A carrier that waits for this."""
+    it = subprocess.Popen([PROGRAM, "--resume", file, tempfile.mkdtemp(dir=WORK)], stdout=subprocess.DEVNULL, stderr=subprocess.PIPE, text=True,
+                          env={**os.environ, "TMPDIR": WORK, "LOCKD": program})
+    until(lambda: os.path.exists(f"{os.path.dirname(program)}/begun"))
+    return it
+
+
+def try_a_carrier_that_ends_before_its_file_has_a_head():
+    """By a kill or a signal: the file is as it was, and another carrier takes it. It also takes one with its head alone."""
+    for was_there in False, True:
+        for how, status in (signal.SIGKILL, -signal.SIGKILL), (signal.SIGTERM, 2):
+            folder = tempfile.mkdtemp(dir=WORK)
+            file, program = f"{folder}/file", slow("state", folder)
+            if was_there:
+                open(file, "x").close()
+            it = beginning(file, program)
+            it.send_signal(how)
+            same((it.wait(PATIENCE), os.path.exists(file) and text_of(file)), (status, was_there and b""))
+            open(f"{folder}/go", "x").close()
+            it.stderr.close()
+            mount = Resumed(file=file)
+            same((mount.end(), text_of(file).startswith(HEAD + b"ask ")), ((0, "legal"), True))
+    with open(file, "wb") as it:
+        it.write(HEAD)
+    mount = Resumed(file=file)
+    same((mount.end(), text_of(file).startswith(HEAD + b"ask ")), ((0, "legal"), True))
+
+
+def try_two_carriers_that_begin_with_one_file():
+    """One of them has it. The other one leaves it as it is, whether it has no head by then, no server, or ends before."""
+    for was_there in False, True:
+        for command, ends, said in ("state", False, "/file is in use by another server"), ("serve", False, "cannot trace"), ("serve", True, "ended before anything"):
+            folder = tempfile.mkdtemp(dir=WORK)
+            file, program = f"{folder}/file", slow(command, folder)
+            if was_there:
+                open(file, "x").close()
+            one = beginning(file, program)
+            mount = Resumed(file=file)
+            shell(mount, "flock job echo in", "in")
+            before = text_of(file)
+            if ends:
+                one.terminate()
+            else:
+                open(f"{folder}/go", "x").close()
+            contains(one.communicate(timeout=PATIENCE)[1], said)
+            same((one.returncode, text_of(file)[:len(before)]), (2, before))
+            mount.cut()
+            same(mount.end(), (0, "legal"))
+
+
+def try_a_mount_that_fails_leaves_its_file_as_it_was():
+    folder = tempfile.mkdtemp(dir=WORK)
+    path = f"{folder}/lockd"
+    write_server(path, f"{A_HEAD}sys.exit(2)\n")
+    for words, env, said in [((), {"LOCKD": path}, "the server ended with status 2 before it listened"), (("--runs", "0"), {}, "state` ended with status 2; nothing"),
+                             ((), {"LOCKD": "/bin/true"}, "state` prints no head"), ((), {"LOCKD": "/bin/false"}, "state` ended with status 1; nothing")]:
+        for was_there in False, True:
+            file = f"{tempfile.mkdtemp(dir=WORK)}/file"
+            if was_there:
+                open(file, "x").close()
+            contains(refusal("--resume", file, *words, folder=tempfile.mkdtemp(dir=WORK), **env), said)
+            same(os.path.exists(file) and text_of(file), was_there and b"")
+    # Other lines stay, also if they are a head by other rules.
+    for text in HEAD.replace(b"16384", b"16383"), HEAD + b"x", HEAD[:-1], b"\n":
+        with open(file, "wb") as it:
+            it.write(text)
+        contains(refusal("--resume", file, folder=tempfile.mkdtemp(dir=WORK)), f"{file} isn't an empty file: name a new one")
+        same(text_of(file), text)
+
+
 # ---- A full disk ----
 
 def full_disk():
@@ -579,6 +698,15 @@ def try_calls_wait_while_the_disk_is_full():
     one.kill()
     same(mount.end(), (0, "legal"))
     asked_once(mount.lines())
+    unmount(disk)
+
+
+def try_a_new_file_on_a_full_disk():
+    """Nothing is mounted, and nothing is left."""
+    disk = full_disk()
+    fill(disk)
+    contains(refusal("--resume", f"{disk}/file", folder=tempfile.mkdtemp(dir=WORK)), f"cannot write {disk}/file: No space left on device")
+    same(os.listdir(disk), ["rest"])
     unmount(disk)
 
 

@@ -77,7 +77,7 @@ def verdict(mount, wanted=(0, "legal")):
 
 def prepare():
     signal.signal(signal.SIGALRM, out_of_time)
-    resource.setrlimit(resource.RLIMIT_NOFILE, (4096, 4096))
+    resource.setrlimit(resource.RLIMIT_NOFILE, (8192, 8192))
     if AS_USER:
         return
     # Records of mounts stay in this namespace, and connections can be aborted.
