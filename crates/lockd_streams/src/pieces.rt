@@ -3,7 +3,7 @@
 ghost use Rattle.std.specs.Prelude.{◌≡◌, IfOk};
 
 use crate::retrying::{Announcing, Retrying, WhenUnwritten};
-use crate::trace_file::is_at;
+use crate::trace_file::{is_at, remove_if_at};
 use fl_stream::Pieces;
 use std::alloc::{AllocError, Global};
 use std::fmt::Write as _;
@@ -82,8 +82,7 @@ impl<'a, N: Write + Copy> FilePieces<'a, N> {
         })
     }
 
-    // A new file for the next piece, which is locked, so that no other server goes on in it. Its permissions and its
-    // owner are those of the file at hand, as far as this process may give them.
+    // A new file for the next piece, which is locked, so that no other server goes on in it.
     fn make_next(&mut self) -> io::Result<File> {
         let path = self.names.next()?;
         remove_untaken(self.rt, path);
@@ -91,19 +90,24 @@ impl<'a, N: Write + Copy> FilePieces<'a, N> {
             .append(true)
             .create_new(true)
             .open(self.rt, path)?;
-        made.try_lock()?;
-        let found = self.here.metadata()?;
-        let _ = chown(self.rt, path, Some(found.uid()), Some(found.gid()));
-        made.set_permissions(found.permissions())?;
-        self.next = Some(made.try_clone()?);
-        Ok(made)
+        match locked_like(self.rt, path, &made, &self.here) {
+            Ok(same) => {
+                self.next = Some(same);
+                Ok(made)
+            }
+            Err(why) => {
+                let _ = fs::remove_file(self.rt, path);
+                Err(why)
+            }
+        }
     }
 
     // Takes the file of a next piece away that doesn't count.
     fn drop_next(&mut self) {
-        self.next = None;
-        if let Ok(path) = self.names.next() {
-            remove_untaken(self.rt, path);
+        if let Some(next) = self.next.take() {
+            if let Ok(path) = self.names.next() {
+                remove_if_at(self.rt, path.as_str(), &next);
+            }
         }
     }
 
@@ -200,7 +204,6 @@ impl<'a, N: Write + Copy + Drop> Pieces<PieceWriter<'a, N>> for FilePieces<'a, N
                 Some(Retrying::new(draft, self.rt, WhenUnwritten::End))
             }
             Err(why) => {
-                self.drop_next();
                 self.fail(&why);
                 None
             }
@@ -226,6 +229,16 @@ impl<'a, N: Write + Copy + Drop> Pieces<PieceWriter<'a, N>> for FilePieces<'a, N
         self.drop_next();
         self.put_off();
     }
+}
+
+// Locks a new file at a path, and gives it once more. Its permissions and its owner are those of another, as far as this
+// process may give them.
+fn locked_like(rt: &HostRuntime, path: Path<'_>, made: &File, other: &File) -> io::Result<File> {
+    made.try_lock()?;
+    let found = other.metadata()?;
+    let _ = chown(rt, path, Some(found.uid()), Some(found.gid()));
+    made.set_permissions(found.permissions())?;
+    made.try_clone()
 }
 
 // Takes a file at a path away, unless a server has it locked, and says whether it did.
