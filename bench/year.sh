@@ -9,12 +9,11 @@ set -eu
 . "$(dirname "$0")/../dev/built_lockd.sh"
 cc -O2 -Wall -Wextra -o "$work/client" bench/peers/client.c
 LOCKD=$(realpath "$program") python3 - "$work" "${1:-30000000}" <<'END'
-import os, subprocess, sys, time
+import os, socket, statistics, subprocess, sys, time
 
 sys.dont_write_bytecode = True
 sys.path.insert(0, ".")
 from tests.tries import INIT, INIT_REPLY, PROGRAM, peak, take
-import socket
 
 WORK, ORDERS = sys.argv[1], int(sys.argv[2])
 FILE, SOCKET, SESSIONS, LONGEST = f"{WORK}/trace", f"{WORK}/socket", 10, 3600
@@ -67,12 +66,12 @@ for session in range(1, SESSIONS + 1):
         assert asking.wait(LONGEST) == 0
     assert serving.returncode == 0, serving.returncode
     names = sorted(it for it in os.listdir(WORK) if it.startswith("trace"))
-    number = max(int(it[6:]) for it in names if it[6:].isdecimal())
-    assert len(names) == 2, names
-    rows.append((disk / 1e6, memory / 1e3, max(restart() for _ in range(5))))
+    number = max((int(it[6:]) for it in names if it[6:].isdecimal()), default=0)
+    assert len(names) == 1 + (number > 0), names
+    rows.append((disk / 1e6, memory / 1e3, statistics.median(restart() for _ in range(5))))
     print(f"{ORDERS * session // SESSIONS} orders: piece {number}, at most {rows[-1][0]:.1f} MB on the disk, {rows[-1][1]:.1f} MB of memory, a restart in {rows[-1][2]:.3f} s",
           flush=True)
 disk, memory, again = (max(it) / it[0] for it in zip(*rows))
-judged = subprocess.run([PROGRAM, "check", f"{FILE}.{number}", FILE], stdout=subprocess.PIPE, text=True).stdout
+judged = subprocess.run([PROGRAM, "check", *([f"{FILE}.{number}"] if number else []), FILE], stdout=subprocess.PIPE, text=True).stdout
 print(f"the most, to that of the first tenth: disk {disk:.2f}, memory {memory:.2f}, restart {again:.2f}; {time.perf_counter() - begun:.0f} s; the last two pieces: {judged}", end="")
 END
