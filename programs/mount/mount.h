@@ -95,13 +95,11 @@ struct pieces {
 
 // A server has just begun to write to the file.
 void trace_begins(struct trace *trace);
-// Sees whether the file is there, with all that it was seen to have, and with `turns` the piece before it.
+// Sees whether the file is there, with all that it was seen to have, and the piece before it, if there was one.
 enum found trace_look(struct trace *trace);
 // What became of it, in some words behind its path.
 const char *trace_became(enum found found);
 struct pieces trace_pieces(const struct trace *trace);
-// Leaves those that have the rules of the file, up to the first one before it that hasn't: by their heads.
-void trace_leave_alike(const struct trace *trace, struct pieces *pieces);
 // The path of one of them, the oldest first. There is room for PIECE_PATH bytes.
 void trace_piece(const struct trace *trace, const struct pieces *pieces, unsigned long at, char *to);
 // How many pieces and bytes there are.

@@ -383,7 +383,7 @@ int server_restart(struct server *server, const struct options *options, bool (*
     return -1;
 }
 
-// The words of `lockd check`, for which there is room: pieces in a row by the same rules are judged as one history, and a file that may be
+// The words of `lockd check`, for which there is room: pieces in a row are judged as one history, and a file that may be
 // cut off alone.
 static void put_check(const char *words[], const struct server *server, const struct options *options, bool is_cut, const struct pieces *pieces)
 {
@@ -410,7 +410,6 @@ static void run_check(const struct server *server, const struct options *options
     struct pieces pieces = {0};
     if (server->trace.turns && !is_cut)
         pieces = trace_pieces(&server->trace);
-    trace_leave_alike(&server->trace, &pieces);
     const char **words = calloc(16 + MOST_RULES + pieces.count, sizeof *words);
     int trace = open(server->trace.path, O_RDONLY);
     if (!words || trace < 0 || dup2(trace, STDIN_FILENO) < 0)

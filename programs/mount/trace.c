@@ -1,5 +1,6 @@
-// The file of the trace, and the pieces that stand before it. `lockd serve --rotate` begins a new piece now and then: it becomes FILE
-// itself, and the old one FILE.N, with a greater number than all before. Its head tells how many orders and replies stand before it.
+// The file of the trace, and the pieces that stand before it. `lockd serve --rotate` begins a new piece now and then, and each server one
+// behind a FILE that was cut: it becomes FILE itself, and the old one FILE.N, with a greater number than all before. Its head tells how many
+// orders and replies stand before it. A FILE that is gone the server puts back.
 #include "mount.h"
 
 #include <dirent.h>
@@ -8,6 +9,7 @@
 #include <stdio.h>
 #include <stdlib.h>
 #include <string.h>
+#include <sys/file.h>
 #include <unistd.h>
 
 enum { FRONT = 64 }; // bytes in which a head says it
@@ -88,33 +90,6 @@ void trace_piece(const struct trace *trace, const struct pieces *pieces, unsigne
     put_piece(to, trace, pieces->last - pieces->count + 1 + at);
 }
 
-enum { RULES = 5 };
-
-// The rules that the head of the file at the path names. False if it has none.
-static bool read_rules(const char *path, unsigned rules[RULES])
-{
-    char front[FRONT];
-    int file = open(path, O_RDONLY | O_NONBLOCK | O_CLOEXEC);
-    ssize_t size = file < 0 ? -1 : pread(file, front, sizeof front - 1, 0);
-    front[size > 0 ? size : 0] = 0;
-    if (file >= 0)
-        close(file);
-    return sscanf(front, "state %*u %u %u %u %u %u", &rules[0], &rules[1], &rules[2], &rules[3], &rules[4]) == RULES;
-}
-
-void trace_leave_alike(const struct trace *trace, struct pieces *pieces)
-{
-    char path[PIECE_PATH];
-    unsigned wanted[RULES], found[RULES];
-    unsigned long count = 0;
-    bool is_alike = read_rules(trace->path, wanted);
-    for (; is_alike && count < pieces->count; count += is_alike) {
-        put_piece(path, trace, pieces->last - count);
-        is_alike = read_rules(path, found) && !memcmp(found, wanted, sizeof wanted);
-    }
-    pieces->count = count;
-}
-
 // FILE is a piece that began behind another one. If FILE was spoilt until then, so is the one before.
 static void see_last(struct trace *trace)
 {
@@ -145,8 +120,20 @@ void trace_begins(struct trace *trace)
     trace->seen = (struct seen){0};
     trace->found = FOUND_WHOLE;
     trace->was_cut = false;
-    if (trace->path[0] && see(trace->path, &trace->seen) && trace->turns && trace->seen.before)
+    if (trace->path[0] && see(trace->path, &trace->seen) && trace->seen.before)
         see_last(trace);
+}
+
+// The server has put a copy of a FILE that was gone into its place, and has that: no other process would.
+static bool is_put_back(const struct trace *trace, const struct seen *seen)
+{
+    if (seen->before != trace->seen.before || seen->at.st_size < trace->seen.at.st_size)
+        return false;
+    int file = open(trace->path, O_RDONLY | O_NONBLOCK | O_CLOEXEC);
+    bool is_taken = file >= 0 && flock(file, LOCK_SH | LOCK_NB) && errno == EWOULDBLOCK;
+    if (file >= 0)
+        close(file);
+    return is_taken;
 }
 
 static enum found found_of(struct trace *trace)
@@ -156,8 +143,8 @@ static enum found found_of(struct trace *trace)
     if (!see(trace->path, &seen))
         return errno == ENOENT || errno == ENOTDIR ? FOUND_NONE : trace->found;
     // The new piece may have the inode of one that was removed.
-    bool is_next = trace->turns && seen.before > before->before;
-    if (!is_next && before->at.st_ino && !is_one_file(&seen.at, &before->at))
+    bool is_next = seen.before > before->before;
+    if (!is_next && before->at.st_ino && !is_one_file(&seen.at, &before->at) && !is_put_back(trace, &seen))
         return FOUND_ANOTHER;
     trace->was_cut = !is_next && (trace->was_cut || seen.before != before->before || seen.at.st_size < before->at.st_size);
     if (trace->was_cut)
@@ -165,7 +152,7 @@ static enum found found_of(struct trace *trace)
     if (is_next)
         see_last(trace);
     *before = seen;
-    return trace->turns && seen.before && !has_last(trace) ? FOUND_NO_PIECE : FOUND_WHOLE;
+    return seen.before && !has_last(trace) ? FOUND_NO_PIECE : FOUND_WHOLE;
 }
 
 enum found trace_look(struct trace *trace)

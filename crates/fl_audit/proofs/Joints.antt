@@ -1,9 +1,9 @@
 -- Lines of a piece that has to go on from the end of another, one more at a time.
 use Rattle.std.proofs.Common.{◌≡◌, ◌≢◌, ℕ, ◌≤◌, Bool, true, false, Option, Some, None, List, [], ◌∷◌, ◌++◌, length}
 use Rattle.std.proofs.Common.{refl, ap, sym, ◌∙◌, subst, arith, append-nil, append_assoc, length-append}
-use Rattle.fl_audit.specs.Inside.Rowing.{IsBreak}
+use Rattle.fl_audit.specs.Inside.Rowing.{IsBreak, IsBroken, IsFit}
 use Rattle.fl_audit.specs.Inside.Seams.{HeadTells, IsGoing, StopsAt, first, told, GoesOrStops}
-use Rattle.fl_audit.specs.Pieces.{End, BeginsAt, Tells, GoesOnFrom, BreaksAt, at_first, at_head, at_line}
+use Rattle.fl_audit.specs.Pieces.{End, BeginsAt, Tells, at_first, at_head, at_line}
 use Rattle.fl_core.specs.State.{Snapshot, snapshot_of}
 use Rattle.fl_core.specs.Step.{replies_in}
 use Rattle.fl_counter.specs.Answered.{step_lines}
@@ -21,11 +21,11 @@ use Rattle.fl_waiting.specs.declared.rules.Rules.{Rules}
 
 -- ---- lists with one more
 
-data Ends {A : Type 0} (xs : List A) : Type 0 where
+pub data Ends {A : Type 0} (xs : List A) : Type 0 where
   none : xs ≡ [] → Ends xs
   last : (front : List A) (x : A) → xs ≡ front ++ x ∷ [] → Ends xs
 
-ends : {A : Type 0} (xs : List A) → Ends xs
+pub ends : {A : Type 0} (xs : List A) → Ends xs
 ends [] = none refl
 ends (x ∷ xs) = go (ends xs)
   where
@@ -33,7 +33,7 @@ ends (x ∷ xs) = go (ends xs)
     go (none e) = last [] x (ap (λ l. x ∷ l) e)
     go (last front y e) = last (x ∷ front) y (ap (λ l. x ∷ l) e)
 
-same_front : {A : Type 0} (xs ys : List A) (x y : A) → xs ++ x ∷ [] ≡ ys ++ y ∷ [] → xs ≡ ys
+pub same_front : {A : Type 0} (xs ys : List A) (x y : A) → xs ++ x ∷ [] ≡ ys ++ y ∷ [] → xs ≡ ys
 same_front [] [] x y e = refl
 same_front [] (z ∷ ys) x y e = absurd (none_behind ys y (cc e))
   where
@@ -105,7 +105,6 @@ pub first_line : (rules : Rules) (end : End) (all lines : List Line) (l : Line) 
 first_line rules end all (x ∷ lines) l b is one going begins =
     absurd (let long = ap length is in let more = length-append lines (l ∷ []) in omega (arith, one, long, more))
 first_line rules end all [] l true is one going begins = record {
-  under = going.under;
   begins = λ _. subst (BeginsAt end) (sym is) (begins.0 refl);
   tells = λ head rest parts h. absurd
       (let two = two_lines rules head h in let long = ap length parts in let both = length-append head rest in omega (arith, one, two, long, both));
@@ -117,7 +116,6 @@ first_line rules end all [] l false is one going begins =
 pub plain_line : (rules : Rules) (end : End) (all lines : List Line) (l : Line) → all ≡ lines ++ l ∷ [] → length all ≢ 1 → IsGoing rules end lines
     → (IsHead rules all → ⊥) → IsGoing rules end all
 plain_line rules end all lines l is more going no_head = subst (IsGoing rules end) (sym is) (record {
-  under = going.under;
   begins = λ _. begins_more end lines l (going.begins (λ e. more (ap length is ∙ ap (λ ls. length (ls ++ l ∷ [])) e)));
   tells = heads_more rules end lines l going.tells (λ h. absurd (no_head (subst (IsHead rules) (sym is) h)));
 })
@@ -125,28 +123,18 @@ plain_line rules end all lines l is more going no_head = subst (IsGoing rules en
 -- another line, behind which one is
 pub head_line : (rules : Rules) (end : End) (all lines : List Line) (l : Line) (core : Snapshot) (b : Bool) → all ≡ lines ++ l ∷ [] → length all ≢ 1
     → IsGoing rules end lines → IsHead rules all → core ≡ snapshot_of (state_after rules all) → (state_after rules all).rules ≡ rules
-    → (b ≡ true → end.present.rules ≡ core.rules → end.present ≡ core) → (HaveSame end.present core → b ≡ true) → GoesOrStops rules end all b
-head_line rules end all lines l core true is more going h there own equal same =
-    let rules_are : end.present.rules ≡ core.rules = going.under ∙ sym own ∙ ap (λ (p : Snapshot). p.rules) (sym there) in
-    subst (IsGoing rules end) (sym is) (record {
-      under = going.under;
-      begins = λ _. begins_more end lines l (going.begins (λ e. more (ap length is ∙ ap (λ ls. length (ls ++ l ∷ [])) e)));
-      tells = heads_more rules end lines l going.tells (λ _. subst (Tells rules end) is (sym there ∙ sym (equal refl rules_are)));
-    })
+    → (b ≡ true → end.present.rules ≡ core.rules → end.present ≡ core)
+    → (b ≡ true → HaveSame end.present core) × (HaveSame end.present core → b ≡ true) → GoesOrStops rules end all b
+head_line rules end all lines l core true is more going h there own equal same = subst (IsGoing rules end) (sym is) (record {
+  begins = λ _. begins_more end lines l (going.begins (λ e. more (ap length is ∙ ap (λ ls. length (ls ++ l ∷ [])) e)));
+  tells = heads_more rules end lines l going.tells (λ _. subst (Tells rules end) is (record {
+    same = subst (HaveSame end.present) there (same.0 refl);
+    equal = λ e. equal refl (e ∙ sym own ∙ ap (λ (p : Snapshot). p.rules) (sym there)) ∙ there;
+  }));
+})
 head_line rules end all lines l core false is more going h there own equal same =
     told (subst (BeginsAt end) (sym is) (begins_more end lines l (going.begins (λ e. more (ap length is ∙ ap (λ ls. length (ls ++ l ∷ [])) e)))))
-    all [] (sym (append-nil all)) h refl
-    (λ tells. cc (same (alike end.present core (sym tells ∙ sym there))))
-  where
-    alike : (p q : Snapshot) → p ≡ q → HaveSame p q
-    alike p q e = record {
-      nodes = ap (λ (p : Snapshot). p.view.directory.nodes) e;
-      files = ap (λ (p : Snapshot). p.view.directory.files) e;
-      next_node = ap (λ (p : Snapshot). p.view.directory.next_node) e;
-      next_fh = ap (λ (p : Snapshot). p.view.directory.next_fh) e;
-      locks = ap (λ (p : Snapshot). p.marking) e;
-      parked = ap (λ (p : Snapshot). p.view.parked) e;
-    }
+    all [] (sym (append-nil all)) h refl (λ tells. cc (same.1 (subst (HaveSame end.present) (sym there) tells.same)))
 
 pub follows : (rules : Rules) (end : End) (all lines : List Line) (l : Line) (n : ℕ) → all ≡ lines ++ l ∷ [] → StopsAt rules end lines n → StopsAt rules end all n
 follows rules end all lines l n is stops = subst (λ ls. StopsAt rules end ls n) (sym is) (stops_more rules end lines l n stops)
@@ -180,7 +168,7 @@ whole_head rules lines h rest (step (b ∷ before) worker order legal e) is =
       is_head = w.is_head;
     }
 
-goes_on : (rules : Rules) (end : End) (lines : List Line) → IsLegal rules lines → lines ≢ [] → IsGoing rules end lines → GoesOnFrom rules end lines
+goes_on : (rules : Rules) (end : End) (lines : List Line) → IsLegal rules lines → lines ≢ [] → IsGoing rules end lines → IsFit rules (Some end) lines
 goes_on rules end lines legal some going =
     let begins = going.begins some in
     let w = whole_head rules lines begins.head begins.rest legal begins.first in
@@ -194,14 +182,15 @@ goes_on rules end lines legal some going =
       tells = going.tells w.head w.rest w.parts w.is_head;
     }
 
-breaks_empty : (rules : Rules) (end : End) (lines : List Line) → lines ≡ [] → BreaksAt rules end lines 1
+breaks_empty : (rules : Rules) (end : End) (lines : List Line) → lines ≡ [] → IsBroken rules (Some end) lines 1
 breaks_empty rules end lines is = at_first refl (λ b. cc (sym is ∙ b.first))
 
-pub breaks_seam : (rules : Rules) (end : End) (lines : List Line) (n : ℕ) → StopsAt rules end lines n → BreaksAt rules end lines n
+pub breaks_seam : (rules : Rules) (end : End) (lines : List Line) (n : ℕ) → StopsAt rules end lines n → IsBroken rules (Some end) lines n
 breaks_seam rules end lines n (first one some other) = at_first one other
 breaks_seam rules end lines n (told b head rest is h at other) = at_head b head rest is h at other
 
-breaks_rules : (rules : Rules) (end : End) (lines : List Line) (n : ℕ) → lines ≢ [] → IsGoing rules end lines → DiffersAt rules lines n → BreaksAt rules end lines n
+breaks_rules : (rules : Rules) (end : End) (lines : List Line) (n : ℕ) → lines ≢ [] → IsGoing rules end lines → DiffersAt rules lines n
+    → IsBroken rules (Some end) lines n
 breaks_rules rules end lines n some going differs = at_line (going.begins some) going.tells differs
 
 no_lines : (lines : List Line) → length lines ≡ 0 → lines ≡ []

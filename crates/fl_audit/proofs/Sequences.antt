@@ -1,5 +1,5 @@
 -- Pieces that are read one after another.
-use Rattle.std.proofs.Common.{◌≡◌, ℕ, zero, suc, ◌+◌, ◌≤◌, Option, Some, None, List, [], ◌∷◌, ◌++◌, map, length, take, drop, slice_get}
+use Rattle.std.proofs.Common.{◌≡◌, ℕ, zero, suc, ◌+◌, ◌≤◌, Option, Some, None, List, [], ◌∷◌, ◌++◌, map, length, take, drop, get_or, set, slice_get}
 use Rattle.std.proofs.Common.{refl, ap, sym, ◌∙◌, subst, arith, append-nil, append_assoc, length-append}
 use Rattle.std.proofs.Math.Seq.{drop-nil}
 use Rattle.std.proofs.lemmas.List.{map-append, length-map}
@@ -10,7 +10,7 @@ use Rattle.std.specs.Option.{option_map}
 use Rattle.fl_audit.specs.First.{IsSoOfAll}
 use Rattle.fl_audit.specs.Inside.Rowing.{IsFit, IsBroken, IsTextOutcome, IsLastEnd, no_piece, last_piece, HaveRow}
 use Rattle.fl_audit.specs.Inside.Seams.{end_seen}
-use Rattle.fl_audit.specs.Pieces.{GoesOnFrom, BreaksAt, IsRow, none, first, next, RowBreaksAt, in_first, later}
+use Rattle.fl_audit.specs.Pieces.{Piece, GoesOnFrom, BreaksAt, IsRow, none, first, next, RowBreaksAt, in_first, later}
 use Rattle.fl_audit.specs.Rows.{AreLeft, IsRowFinding, IsBadRow, IsSoOfTexts}
 use Rattle.fl_audit.specs.declared.row.Outcome.TheVariants.{Ends, Breaks}
 use Rattle.fl_audit.specs.declared.row.RowFinding.TheVariants.{Legal, Differs}
@@ -67,11 +67,18 @@ taken [] k left found = absurd (none-some left found)
 taken (l ∷ lefts) zero left found = refl
 taken (l ∷ lefts) (suc k) left found = let rest = taken lefts k left found in omega (arith, rest)
 
-all_taken : (lefts : List Left) (k : ℕ) → length lefts ≤ k → take k lefts ≡ lefts
+all_taken : {A : Type 0} (xs : List A) (k : ℕ) → length xs ≤ k → take k xs ≡ xs
 all_taken [] zero past = refl
 all_taken [] (suc k) past = refl
-all_taken (l ∷ lefts) zero past = absurd (omega (arith, past))
-all_taken (l ∷ lefts) (suc k) past = ap (λ ls. l ∷ ls) (all_taken lefts k (omega (arith, past)))
+all_taken (x ∷ xs) zero past = absurd (omega (arith, past))
+all_taken (x ∷ xs) (suc k) past = ap (λ ys. x ∷ ys) (all_taken xs k (omega (arith, past)))
+
+take_more : {A : Type 0} (xs : List A) (k : ℕ) (x : A) → slice_get xs k ≡ Some x → take (k + 1) xs ≡ take k xs ++ x ∷ []
+take_more [] k x found = absurd (none-some x found)
+take_more (y ∷ xs) zero x found = let same : y ≡ x = cc found in ap (λ z. z ∷ []) same
+take_more (y ∷ xs) (suc k) x found =
+    let after : suc k + 1 ≡ suc (k + 1) = omega arith in
+    ap (λ n. take n (y ∷ xs)) after ∙ ap (λ ys. y ∷ ys) (take_more xs k x found)
 
 all_one : {A : Type 0} (P : A → Type 0) (xs : List A) (x : A) → AllByRecursion P xs → P x → AllByRecursion P (xs ++ x ∷ [])
 all_one P [] x all one = (one, tt)
@@ -79,107 +86,147 @@ all_one P (y ∷ xs) x all one = (all.0, all_one P xs x all.1 one)
 
 -- ---- pieces in a row
 
-module _ (rules : Rules) where
-  -- pieces in a row, and one more
-  row_more : (pieces : List (List Line)) (end : Option PieceEnd) (lines : List Line) → IsRow rules pieces → IsLastEnd rules pieces end
-      → IsFit rules (option_map (λ e. end_seen e) end) lines → IsRow rules (pieces ++ lines ∷ [])
-  row_more pieces None lines row (no_piece e) fit = first lines fit (ap (λ ps. ps ++ lines ∷ []) e)
-  row_more pieces (Some f) lines row (last_piece before last e is end) fit =
-      next before last lines (subst (IsRow rules) is row) (subst (λ x. GoesOnFrom rules x lines) end.is fit) (ap (λ ps. ps ++ lines ∷ []) is)
+abbrev texts_of : List Piece → List (List ℕ)
+texts_of pieces = map (λ (piece : Piece). text_of piece.lines) pieces
 
-  -- one that breaks the row
-  row_broken : (pieces : List (List Line)) (end : Option PieceEnd) (lines : List Line) (p n : ℕ) → IsRow rules pieces → IsLastEnd rules pieces end
-      → IsBroken rules (option_map (λ e. end_seen e) end) lines n → p ≡ length pieces + 1 → RowBreaksAt rules (pieces ++ lines ∷ []) p n
-  row_broken pieces None lines p n row (no_piece e) broken at =
-      in_first lines [] (ap (λ ps. ps ++ lines ∷ []) e) (let empty = ap length e in omega (arith, at, empty)) broken
-  row_broken pieces (Some f) lines p n row (last_piece before last e is end) broken at =
-      later before last lines [] (ap (λ ps. ps ++ lines ∷ []) is)
-      (let long = ap length is in let more = length-append before (last ∷ []) in omega (arith, at, long, more))
-      (subst (IsRow rules) is row) (subst (λ x. BreaksAt rules x lines n) end.is broken)
+abbrev rules_of : List Piece → List Rules
+rules_of pieces = map (λ (piece : Piece). piece.rules) pieces
 
-  pub row_starts : (lefts : List Left) → HaveRow rules lefts 0 None
-  row_starts lefts = record { pieces = []; fits = tt; read = tt; row = none; ends = no_piece refl }
+abbrev AllFit : List Piece → Type 0
+AllFit pieces = AllByRecursion (λ (piece : Piece). Fits piece.lines) pieces
 
-  pub row_on : (lefts : List Left) (k n : ℕ) (left : Left) (end : Option PieceEnd) (e : PieceEnd) → HaveRow rules lefts k end → slice_get lefts k ≡ Some left → n ≡ k + 1
-      → IsSoOfAll left (λ bytes. IsTextOutcome rules (option_map (λ e. end_seen e) end) bytes (Ends e)) → HaveRow rules lefts n (Some e)
-  row_on lefts k n left end e have found after so =
-      let lines = so.is.lines in
-      let spelled : map text_of (have.pieces ++ lines ∷ []) ≡ map text_of have.pieces ++ so.text ∷ [] =
-      map-append text_of have.pieces (lines ∷ []) ∙ ap (λ t. map text_of have.pieces ++ t ∷ []) (sym so.is.spelled) in
-      record {
-        pieces = have.pieces ++ lines ∷ [];
-        fits = all_one Fits have.pieces lines have.fits so.is.fits;
-        read = subst (λ m. AreLeft (take m lefts) (map text_of (have.pieces ++ lines ∷ []))) (sym after)
-            (subst (AreLeft (take (k + 1) lefts)) (sym spelled) (left_more lefts k left (map text_of have.pieces) so.text found have.read so.read));
-        row = row_more have.pieces end lines have.row have.ends so.is.is.0;
-        ends = last_piece have.pieces lines e refl so.is.is.1;
-      }
+-- pieces in a row, and one more
+row_more : (pieces : List Piece) (end : Option PieceEnd) (piece : Piece) → IsRow pieces → IsLastEnd pieces end
+    → IsFit piece.rules (option_map (λ e. end_seen e) end) piece.lines → IsRow (pieces ++ piece ∷ [])
+row_more pieces None piece row (no_piece e) fit = first piece fit (ap (λ ps. ps ++ piece ∷ []) e)
+row_more pieces (Some f) piece row (last_piece before last e is end) fit =
+    next before last piece (subst IsRow is row) (subst (λ x. GoesOnFrom x piece) end fit) (ap (λ ps. ps ++ piece ∷ []) is)
+
+-- one that breaks the row
+row_broken : (pieces : List Piece) (end : Option PieceEnd) (piece : Piece) (p n : ℕ) → IsRow pieces → IsLastEnd pieces end
+    → IsBroken piece.rules (option_map (λ e. end_seen e) end) piece.lines n → p ≡ length pieces + 1 → RowBreaksAt (pieces ++ piece ∷ []) p n
+row_broken pieces None piece p n row (no_piece e) broken at =
+    in_first piece [] (ap (λ ps. ps ++ piece ∷ []) e) (let empty = ap length e in omega (arith, at, empty)) broken
+row_broken pieces (Some f) piece p n row (last_piece before last e is end) broken at =
+    later before last piece [] (ap (λ ps. ps ++ piece ∷ []) is)
+    (let long = ap length is in let more = length-append before (last ∷ []) in omega (arith, at, long, more))
+    (subst IsRow is row) (subst (λ x. BreaksAt x piece n) end broken)
+
+module _ (rules : List Rules) (lefts : List Left) where
+  pub row_starts : HaveRow rules lefts 0 None
+  row_starts = record { pieces = []; under = refl; fits = tt; read = tt; row = none; ends = no_piece refl }
 
   -- how many pieces were read
-  read_many : (lefts : List Left) (k : ℕ) (left : Left) (end : Option PieceEnd) (have : HaveRow rules lefts k end) → slice_get lefts k ≡ Some left
+  read_many : (k : ℕ) (left : Left) (end : Option PieceEnd) (have : HaveRow rules lefts k end) → slice_get lefts k ≡ Some left
       → length have.pieces ≡ k
-  read_many lefts k left end have found =
-      sym (length-map have.pieces text_of) ∙ left_long (take k lefts) (map text_of have.pieces) have.read ∙ taken lefts k left found
+  read_many k left end have found =
+      sym (length-map have.pieces (λ (piece : Piece). text_of piece.lines)) ∙ left_long (take k lefts) (texts_of have.pieces) have.read ∙ taken lefts k left found
 
-  pub row_ends : (lefts : List Left) (k p n : ℕ) (left : Left) (end : Option PieceEnd) → HaveRow rules lefts k end → slice_get lefts k ≡ Some left → p ≡ k + 1
-      → IsSoOfAll left (λ bytes. IsTextOutcome rules (option_map (λ e. end_seen e) end) bytes (Breaks n))
-      → IsSoOfTexts lefts (λ texts. IsRowFinding rules texts (Differs (record { piece = p; line = n })))
-  row_ends lefts k p n left end have found at so =
-      let lines = so.is.lines in
-      let pieces = have.pieces ++ lines ∷ [] in
-      let spelled : map text_of pieces ≡ map text_of have.pieces ++ so.text ∷ [] =
-      map-append text_of have.pieces (lines ∷ []) ∙ ap (λ t. map text_of have.pieces ++ t ∷ []) (sym so.is.spelled) in
-      let others = map some_text (drop (k + 1) lefts) in
-      record {
-        texts = map text_of pieces ++ others;
-        read = left_all lefts (k + 1) (map text_of pieces)
-            (subst (AreLeft (take (k + 1) lefts)) (sym spelled) (left_more lefts k left (map text_of have.pieces) so.text found have.read so.read));
-        is = record {
-          pieces = pieces;
-          others = others;
-          are = record { spelled = refl; fits = all_one Fits have.pieces lines have.fits so.is.fits };
-          found = row_broken have.pieces end lines p n have.row have.ends so.is.is (at ∙ ap (λ m. m + 1) (sym (read_many lefts k left end have found)));
-        };
-      }
+  -- a piece is at hand, behind those that were read: what is left of it is known, and its rules
+  module _ (k : ℕ) (left : Left) (own : Rules) (end : Option PieceEnd) (have : HaveRow rules lefts k end) (found : slice_get lefts k ≡ Some left)
+      (named : slice_get rules k ≡ Some own) where
+    -- the texts that were read, with that one
+    read_one : (text : List ℕ) → IfSome left (λ bytes. bytes ≡ text) → AreLeft (take (k + 1) lefts) (texts_of have.pieces ++ text ∷ [])
+    read_one text read = left_more lefts k left (texts_of have.pieces) text found have.read read
 
-  pub row_bad : (lefts : List Left) (k p n : ℕ) (left : Left) (end : Option PieceEnd) → HaveRow rules lefts k end → slice_get lefts k ≡ Some left → p ≡ k + 1
-      → IsSoOfAll left (λ bytes. trace.BreaksAt LineFits bytes n) → IsSoOfTexts lefts (λ texts. IsBadRow rules texts p n)
-  row_bad lefts k p n left end have found at so =
-      let others = map some_text (drop (k + 1) lefts) in
+    spelled_one : (lines : List Line) (text : List ℕ) → text ≡ text_of lines
+        → texts_of (have.pieces ++ (record { rules = own; lines = lines }) ∷ []) ≡ texts_of have.pieces ++ text ∷ []
+    spelled_one lines text is =
+        map-append (λ (piece : Piece). text_of piece.lines) have.pieces ((record { rules = own; lines = lines }) ∷ [])
+        ∙ ap (λ t. texts_of have.pieces ++ t ∷ []) (sym is)
+
+    under_one : (lines : List Line) → take (k + 1) rules ≡ rules_of (have.pieces ++ (record { rules = own; lines = lines }) ∷ [])
+    under_one lines =
+        take_more rules k own named ∙ ap (λ rs. rs ++ own ∷ []) have.under
+        ∙ sym (map-append (λ (piece : Piece). piece.rules) have.pieces ((record { rules = own; lines = lines }) ∷ []))
+
+    pub row_on : (n : ℕ) (e : PieceEnd) → n ≡ k + 1
+        → IsSoOfAll left (λ bytes. IsTextOutcome own (option_map (λ e. end_seen e) end) bytes (Ends e)) → HaveRow rules lefts n (Some e)
+    row_on n e after so =
+        let piece : Piece = record { rules = own; lines = so.is.lines } in
+        record {
+          pieces = have.pieces ++ piece ∷ [];
+          under = ap (λ m. take m rules) after ∙ under_one so.is.lines;
+          fits = all_one (λ (piece : Piece). Fits piece.lines) have.pieces piece have.fits so.is.fits;
+          read = subst (λ m. AreLeft (take m lefts) (texts_of (have.pieces ++ piece ∷ []))) (sym after)
+              (subst (AreLeft (take (k + 1) lefts)) (sym (spelled_one so.is.lines so.text so.is.spelled)) (read_one so.text so.read));
+          row = row_more have.pieces end piece have.row have.ends so.is.is.0;
+          ends = last_piece have.pieces piece e refl so.is.is.1;
+        }
+
+    pub row_ends : (p n : ℕ) → p ≡ k + 1 → IsSoOfAll left (λ bytes. IsTextOutcome own (option_map (λ e. end_seen e) end) bytes (Breaks n))
+        → IsSoOfTexts lefts (λ texts. IsRowFinding rules texts (Differs (record { piece = p; line = n })))
+    row_ends p n at so =
+        let piece : Piece = record { rules = own; lines = so.is.lines } in
+        let pieces = have.pieces ++ piece ∷ [] in
+        let others = map some_text (drop (k + 1) lefts) in
+        let many = read_many k left end have found in
+        let more : length pieces ≡ k + 1 = length-append have.pieces (piece ∷ []) ∙ ap (λ m. m + 1) many in
+        record {
+          texts = texts_of pieces ++ others;
+          read = left_all lefts (k + 1) (texts_of pieces)
+              (subst (AreLeft (take (k + 1) lefts)) (sym (spelled_one so.is.lines so.text so.is.spelled)) (read_one so.text so.read));
+          is = record {
+            pieces = pieces;
+            others = others;
+            are = record {
+              under = ap (λ m. take m rules) more ∙ under_one so.is.lines;
+              spelled = refl;
+              fits = all_one (λ (piece : Piece). Fits piece.lines) have.pieces piece have.fits so.is.fits;
+            };
+            found = row_broken have.pieces end piece p n have.row have.ends so.is.is (at ∙ ap (λ m. m + 1) (sym many));
+          };
+        }
+
+    pub row_bad : (p n : ℕ) → p ≡ k + 1 → IsSoOfAll left (λ bytes. trace.BreaksAt LineFits bytes n)
+        → IsSoOfTexts lefts (λ texts. IsBadRow rules texts p n)
+    row_bad p n at so =
+        let others = map some_text (drop (k + 1) lefts) in
+        let many = read_many k left end have found in
+        record {
+          texts = (texts_of have.pieces ++ so.text ∷ []) ++ others;
+          read = left_all lefts (k + 1) (texts_of have.pieces ++ so.text ∷ []) (read_one so.text so.read);
+          is = record {
+            pieces = have.pieces;
+            bad = so.text;
+            others = others;
+            are = record {
+              under = ap (λ m. take m rules) many ∙ have.under;
+              spelled = append_assoc (texts_of have.pieces) (so.text ∷ []) others;
+              fits = have.fits;
+            };
+            row = have.row;
+            number = at ∙ ap (λ m. m + 1) (sym many);
+            breaks = so.is;
+          };
+        }
+
+  pub row_done : (k : ℕ) (end : Option PieceEnd) → HaveRow rules lefts k end → length lefts ≤ k → length rules ≡ length lefts
+      → IsSoOfTexts lefts (λ texts. IsRowFinding rules texts Legal)
+  row_done k end have past same =
+      let many : length have.pieces ≡ length lefts =
+      sym (length-map have.pieces (λ (piece : Piece). text_of piece.lines)) ∙ left_long (take k lefts) (texts_of have.pieces) have.read
+      ∙ ap length (all_taken lefts k past) in
+      let all : take k rules ≡ rules = all_taken rules k (omega (arith, past, same)) in
+      let mine : take (length have.pieces) rules ≡ rules = all_taken rules (length have.pieces) (omega (arith, many, same)) in
       record {
-        texts = (map text_of have.pieces ++ so.text ∷ []) ++ others;
-        read = left_all lefts (k + 1) (map text_of have.pieces ++ so.text ∷ [])
-            (left_more lefts k left (map text_of have.pieces) so.text found have.read so.read);
+        texts = texts_of have.pieces;
+        read = subst (λ ls. AreLeft ls (texts_of have.pieces)) (all_taken lefts k past) have.read;
         is = record {
           pieces = have.pieces;
-          bad = so.text;
-          others = others;
-          are = record { spelled = append_assoc (map text_of have.pieces) (so.text ∷ []) others; fits = have.fits };
-          row = have.row;
-          number = at ∙ ap (λ m. m + 1) (sym (read_many lefts k left end have found));
-          breaks = so.is;
+          others = [];
+          are = record { under = mine ∙ sym all ∙ have.under; spelled = sym (append-nil (texts_of have.pieces)); fits = have.fits };
+          found = (have.row, refl);
         };
       }
 
-  pub row_done : (lefts : List Left) (k : ℕ) (end : Option PieceEnd) → HaveRow rules lefts k end → length lefts ≤ k
-      → IsSoOfTexts lefts (λ texts. IsRowFinding rules texts Legal)
-  row_done lefts k end have past = record {
-    texts = map text_of have.pieces;
-    read = subst (λ ls. AreLeft ls (map text_of have.pieces)) (all_taken lefts k past) have.read;
-    is = record {
-      pieces = have.pieces;
-      others = [];
-      are = record { spelled = sym (append-nil (map text_of have.pieces)); fits = have.fits };
-      found = (have.row, refl);
-    };
-  }
-
-  -- the end from which the next piece has to go on is under these rules
-  pub end_under : (pieces : List (List Line)) (end : Option PieceEnd) → IsLastEnd rules pieces end → IfSome end (λ e. e.present.rules ≡ rules)
-  end_under pieces None is = tt
-  end_under pieces (Some f) (last_piece before last e is end) = end.under
-
 -- ---- what is left of a list
+
+-- an item in the place of one that is seen as it
+pub seen_alike : {A B : Type 0} (f : A → B) (xs : List A) (k : ℕ) (x d : A) → f x ≡ f (get_or xs k d) → map f (set xs k x) ≡ map f xs
+seen_alike f [] k x d same = refl
+seen_alike f (y ∷ xs) zero x d same = ap (λ z. z ∷ map f xs) same
+seen_alike f (y ∷ xs) (suc k) x d same = ap (λ zs. f y ∷ zs) (seen_alike f xs k x d same)
 
 module _ {A : Type 0} where
   pub drop_more : (xs ys : List A) (k : ℕ) → drop k xs ≡ drop k ys → drop (k + 1) xs ≡ drop (k + 1) ys

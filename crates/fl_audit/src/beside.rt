@@ -1,6 +1,6 @@
 //! What hears the same lines beside a judge.
 
-ghost use Rattle.std.specs.Prelude.{◌≡◌, ◌++◌, ◌∷◌, [], Some, None, IfSome, List, false, option_map};
+ghost use Rattle.std.specs.Prelude.{◌≡◌, ◌++◌, ◌∷◌, [], Some, None, List, false, option_map};
 ghost use Rattle.fl_audit.specs.Inside.Keeping.{along};
 ghost use Rattle.fl_audit.specs.Inside.Seams.{end_seen, IsBeside};
 ghost use Rattle.fl_history.specs.declared.history.Line.{Line as Heard};
@@ -44,7 +44,7 @@ impl Beside {
     /// The lines have to go on from this end, if there is one.
     pub(crate) fn behind(end: Option<PieceEnd>) -> Beside
         ensures along { along result ≡ record { keeps = false; end = option_map end_seen end } }
-        ensures beside { (rules : Limits) → IfSome end (λ e. e.present.rules ≡ rules) → IsBeside rules [] result }
+        ensures beside { (rules : Limits) → IsBeside rules [] result }
     {
         let seam = match end {
             Some(end) => Some(Seam { end, breaks: None }),

@@ -28,4 +28,4 @@ pub use details::{BadLine, Details};
 pub use finding::{AuditFault, Audited, Finding, Heard};
 pub use opening::{Opening, read_opening};
 pub use reading::{audit, hear_cut, hear_first, hear_whole};
-pub use row::{PieceLine, RowFault, RowFinding, audit_row};
+pub use row::{PieceLine, PieceReader, RowFault, RowFinding, audit_row};

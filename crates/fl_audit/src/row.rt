@@ -1,11 +1,11 @@
 //! Reads the pieces of a history, one after another, and says whether each goes on from the one before.
 
-ghost use Rattle.std.specs.Prelude.{◌≡◌, ℕ, [], Err, IfOk, IfSome, map, option_map};
+ghost use Rattle.std.specs.Prelude.{◌≡◌, ℕ, [], Err, IfOk, option_map};
 ghost use Rattle.fl_audit.specs.First.{IsSoOfAll};
 ghost use Rattle.fl_audit.specs.Inside.Keeping.{along};
 ghost use Rattle.fl_audit.specs.Inside.Rowing.{IsBreak, IsEnd, IsOutcome, IsTextOutcome};
 ghost use Rattle.fl_audit.specs.Inside.Seams.{end_seen, IsBeside};
-ghost use Rattle.fl_audit.specs.Rows.{IsBadRow, IsRowFinding, IsSoOfTexts};
+ghost use Rattle.fl_audit.specs.Rows.{left_of, rules_of, IsBadRow, IsRowFinding, IsSoOfTexts};
 ghost use Rattle.fl_desk.specs.Legal.{IsLegal};
 ghost use Rattle.fl_trace.specs.Text.{BreaksAt, LineFits};
 
@@ -20,10 +20,20 @@ use fl_judge::{Judge, Resumed};
 use std::alloc::Global;
 use std::io::Read;
 
+/// A reader of a piece, and the rules that the piece is judged by.
+#[derive(Drop)]
+pub struct PieceReader<R> {
+    /// The rules.
+    pub rules: Rules,
+    /// The reader.
+    pub input: R,
+}
+
 /// What is said of the pieces of a history.
 #[derive(Clone, Copy, Debug, PartialEq, Eq)]
 pub enum RowFinding {
-    /// They are one history, and a single thread could have produced it, under the rules that it is judged by.
+    /// They are in a row, and a single thread could have produced each from what was there after the one before, under
+    /// the rules that it is judged by.
     Legal,
     /// They aren't: this line of this piece is the first that breaks the rules, or doesn't go on from the piece before.
     Differs(PieceLine),
@@ -55,26 +65,27 @@ pub(crate) enum Outcome {
 }
 
 /// Reads the pieces of a history to their ends, one after another, and says whether they are in a row: each is legal
-/// under these rules, and each but the first begins with a head that tells exactly what is there after the one before.
-/// What stands behind a line that breaks this isn't judged, and pieces behind that one aren't read. It takes memory for
-/// two directories, and that of `audit`, however many pieces there are and however long they are.
+/// under its rules, and each but the first begins with a head that tells exactly what is there after the one before. If
+/// the rules change, all that is there is the same, and fits the new ones. What stands behind a line that breaks this
+/// isn't judged, and pieces behind that one aren't read. It takes memory for two directories, and that of `audit`,
+/// however many pieces there are and however long they are.
 ///
 /// Reading fails as that of `audit` does, and `details` gets what it gets there, of the last piece that was read.
 pub fn audit_row<R: Read>(
     alloc: Global,
-    rules: Rules,
-    pieces: &mut [R],
+    pieces: &mut [PieceReader<R>],
     details: &mut Details,
 ) -> Result<RowFinding, RowFault>
-    ensures found { IfOk result (λ finding.
-        IsSoOfTexts (map R.remaining pieces.old) (λ texts. IsRowFinding rules texts finding)) }
+    ensures found { IfOk result (λ finding. IsSoOfTexts (left_of R.remaining pieces.old)
+        (λ texts. IsRowFinding (rules_of pieces.old) texts finding)) }
     ensures bad { (piece line : ℕ) → result ≡ Err (record { piece = piece; fault = AuditFault.BadLine line }) →
-        IsSoOfTexts (map R.remaining pieces.old) (λ texts. IsBadRow rules texts piece line) }
+        IsSoOfTexts (left_of R.remaining pieces.old) (λ texts. IsBadRow (rules_of pieces.old) texts piece line) }
+    ensures rules { rules_of pieces.new ≡ rules_of pieces.old }
 {
     let mut before = None;
     for at in 0..pieces.len() {
         let piece = at + 1;
-        match hear_piece(alloc, rules, before, &mut pieces[at], details) {
+        match hear_piece(alloc, before, &mut pieces[at], details) {
             Ok(Outcome::Ends(end)) => before = Some(end),
             Ok(Outcome::Breaks(line)) => return Ok(RowFinding::Differs(PieceLine { piece, line })),
             Err(fault) => return Err(RowFault { piece, fault }),
@@ -86,19 +97,19 @@ pub fn audit_row<R: Read>(
 // Reads a piece to its end. It has to go on from an end, if there is one.
 fn hear_piece<R: Read>(
     alloc: Global,
-    rules: Rules,
     before: Option<PieceEnd>,
-    input: &mut R,
+    piece: &mut PieceReader<R>,
     details: &mut Details,
 ) -> Result<Outcome, AuditFault>
-    requires { IfSome before (λ e. e.present.rules ≡ rules) }
-    ensures said { IfOk result (λ outcome. IsSoOfAll (R.remaining input.old)
-        (λ text. IsTextOutcome rules (option_map end_seen before) text outcome)) }
+    ensures said { IfOk result (λ outcome. IsSoOfAll (R.remaining piece.old.input)
+        (λ text. IsTextOutcome piece.old.rules (option_map end_seen before) text outcome)) }
     ensures bad { (n : ℕ) → result ≡ Err (AuditFault.BadLine n) →
-        IsSoOfAll (R.remaining input.old) (λ text. BreaksAt LineFits text n) }
+        IsSoOfAll (R.remaining piece.old.input) (λ text. BreaksAt LineFits text n) }
+    ensures rules { piece.new.rules ≡ piece.old.rules }
 {
+    let rules = piece.rules;
     let beside = Beside::behind(before);
-    match hear_all(alloc, rules, None, false, beside, input, details) {
+    match hear_all(alloc, rules, None, false, beside, &mut piece.input, details) {
         Ok(heard) => {
             let (judge, beside) = heard.judge.into_parts();
             Ok(outcome_of(judge, &beside))

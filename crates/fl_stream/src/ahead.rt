@@ -82,6 +82,13 @@ impl<T: Write> AheadLines<T> {
         self.stream.lines()
     }
 
+    /// The writer.
+    pub fn writer(&self) -> &T
+        ensures { T.contents result.now ≡ self.now.held }
+    {
+        self.stream.writer()
+    }
+
     /// Whether the writer has the text of all lines.
     pub fn is_whole(&self) -> bool
         ensures front { IsPrefix self.now.noted self.now.lines }

@@ -32,7 +32,7 @@ mod writing;
 pub use ahead::AheadLines;
 pub use manner::WhenWriterFails;
 pub use piece_lines::PieceLines;
-pub use pieces::{OnePiece, Pieces};
+pub use pieces::Pieces;
 pub use printing::{TraceRoom, Unwritten, write_trace};
 pub use streamed::{StreamRoom, Streamed};
 pub use text::{TraceFault, has_text, print_trace, read_trace};

@@ -1,6 +1,6 @@
 //! Lines that go to writers in pieces.
 
-ghost use Rattle.std.specs.Prelude.{◌≡◌, ◌≤◌, ◌<◌, ◌+◌, ◌++◌, ◌∷◌, IsTrue, [], min, true, IfOk, IsOk};
+ghost use Rattle.std.specs.Prelude.{◌≡◌, ◌≤◌, ◌<◌, ◌+◌, ◌++◌, ◌∷◌, [], min, true, IfOk, IsOk};
 ghost use mathlib.Core.List.{IsPrefix};
 ghost use Rattle.fl_history.specs.Place.{place_of};
 ghost use Rattle.fl_stream.specs.Streams.{IsAs};
@@ -16,8 +16,8 @@ use std::io::Write;
 use std::marker::Model;
 use std::mem;
 
-// So many orders and replies come at the least before the next piece begins. By so many last lines messages that are
-// sent again are known, so these always stand in the last two pieces.
+// By so many last orders and replies messages that are sent again are known. A piece with fewer is over only if its
+// file was cut: otherwise these stand in the last two pieces.
 const LEAST_LINES: u64 = 65_536;
 
 /// Lines that go to a writer as their text before replies leave, in pieces: once one is due, the next begins with a
@@ -40,7 +40,7 @@ pub struct PieceLines<T: Write, P: Pieces<T>> {
 }
 
 impl<T: Write, P: Pieces<T>> Model for PieceLines<T, P> {
-    ghost use Rattle.std.specs.Prelude.{◌≡◌, IsTrue, []};
+    ghost use Rattle.std.specs.Prelude.{◌≡◌};
     ghost use mathlib.Core.List.{IsPrefix};
     ghost use Rattle.fl_history.specs.Place.{place_of};
     ghost use Rattle.fl_stream.specs.Pieced.{Pieced, behind_head, draft_lines};
@@ -57,17 +57,16 @@ impl<T: Write, P: Pieces<T>> Model for PieceLines<T, P> {
 
     ghost invariant = { λ p. (p.place ≡ place_of p.lines.items)
         × (p.lines.items ≡ behind_head p.before.items p.head.items p.here.lines)
-        × IsPrefix p.head.items p.here.lines
-        × (IsTrue P.single → (p.before.items ≡ []) × (p.head.items ≡ [])) };
+        × IsPrefix p.head.items p.here.lines };
 }
 
 impl<T: Write + Drop, P: Pieces<T> + Drop> PieceLines<T, P> {
     /// These lines, which are one piece and end at this place, before a writer that has their text and nothing more.
-    /// There is room for the text of its lines, and for that of another piece's head, or for none. So many of the lines
-    /// are orders and replies; that there are 65,536 is as good as any greater number.
+    /// There is room for the text of its lines, and for that of another piece's head. So many of the lines are orders
+    /// and replies; that there are 65,536 is as good as any greater number.
     pub fn behind(
         room: StreamRoom,
-        spare: Option<StreamRoom>,
+        spare: StreamRoom,
         writer: T,
         base: &Past<Line>,
         place: Place,
@@ -88,7 +87,7 @@ impl<T: Write + Drop, P: Pieces<T> + Drop> PieceLines<T, P> {
             before: Past::new(),
             head: Past::new(),
             draft: None,
-            spare,
+            spare: Some(spare),
             pieces,
         }
     }
@@ -97,10 +96,14 @@ impl<T: Write + Drop, P: Pieces<T> + Drop> PieceLines<T, P> {
     pub fn into_here(self) -> AheadLines<T>
         ensures here { result ≡ self.here }
         ensures all { self.lines ≡ behind_head self.before self.head self.here.lines }
-        ensures single { IsTrue P.single → (self.before ≡ []) × (self.head ≡ []) }
     {
         let PieceLines { here, .. } = self;
         here
+    }
+
+    // Whether the piece at hand has so many orders and replies that none before them need be known.
+    fn has_enough(&self) -> bool {
+        self.since >= LEAST_LINES
     }
 
     // A line more, of an order or a reply.
@@ -122,7 +125,6 @@ impl<T: Write + Drop, P: Pieces<T> + Drop> PieceLines<T, P> {
         requires front { IsPrefix self.old.here.noted self.old.here.lines }
         requires written { next.noted ≡ next.lines }
         requires room { next.room ≡ 2048 }
-        requires several { IsTrue P.single → ⊥ }
         ensures lines { self.new.lines ≡ self.old.lines }
         ensures stored { IsPrefix (stored_of self.old) (stored_of self.new) }
         ensures here { self.new.here ≡ next }
@@ -171,7 +173,7 @@ impl<T: Write + Drop, P: Pieces<T> + Drop> Journal for PieceLines<T, P> {
     }
 
     fn due(&self) -> Option<u64> {
-        if self.since >= LEAST_LINES && self.pieces.is_due() {
+        if self.pieces.is_due(self.here.writer(), self.has_enough()) {
             Some(self.place.lines)
         } else {
             None
@@ -182,7 +184,8 @@ impl<T: Write + Drop, P: Pieces<T> + Drop> Journal for PieceLines<T, P> {
         let Some(room) = self.spare.take() else {
             return false;
         };
-        let Some(writer) = self.pieces.begin() else {
+        let enough = self.has_enough();
+        let Some(writer) = self.pieces.begin(self.here.writer(), enough) else {
             self.spare = Some(room);
             return false;
         };
@@ -226,7 +229,6 @@ fn next_piece<T: Write + Drop, P: Pieces<T>>(
     ensures noted { IfOk result (λ next. next.noted ≡ draft.lines) }
     ensures room { IfOk result (λ next. next.room ≡ 2048) }
     ensures whole { IsOk result → whole ≡ true }
-    ensures several { IsOk result → IsTrue P.single → ⊥ }
 {
     let written = whole && draft.finish();
     let head = draft.lines();

@@ -191,6 +191,13 @@ impl<W: Write> Streamed<W> {
         self.past.same()
     }
 
+    /// The writer.
+    pub fn writer(&self) -> &W
+        ensures { W.contents result.now ≡ self.now.held }
+    {
+        &self.writer
+    }
+
     /// Whether the writer holds the text of all lines.
     #[tactic(auto, using(crate::proofs::Streaming::begun, crate::proofs::Streaming::noted_front))]
     pub fn is_whole(&self) -> bool

@@ -11,7 +11,7 @@ use fl_order::NoMemory;
 use fl_wire::{Step, next_frame};
 use std::alloc::Global;
 use std::io;
-use std::io::Read;
+use std::io::{ErrorKind, Read};
 use std::marker::Model;
 
 // The most bytes of a message.
@@ -20,7 +20,7 @@ const MESSAGE_BYTES: usize = 8192;
 /// The result of a read.
 #[derive(Clone, Copy, Debug, PartialEq, Eq)]
 pub enum Filled {
-    /// Bytes came.
+    /// Bytes came, or the read was interrupted.
     More,
     /// No more come: the session ends, with this fault of its reader, if any.
     End(Option<Fault>),
@@ -99,7 +99,7 @@ impl Inbox {
     pub fn fill<R: Read>(&mut self, r: &mut R) -> Filled
         requires { first_step self.old.rest ≡ Step.More }
         ensures bounded { length self.new.rest ≤ 8192 }
-        ensures more { result ≡ Filled.More → length self.old.rest < length self.new.rest }
+        ensures more { result ≡ Filled.More → length self.old.rest ≤ length self.new.rest }
         ensures reads { result ≡ Filled.More → self.new.reads + 1 ≡ self.old.reads }
         ensures less { result ≡ Filled.More → work self.new < work self.old }
         ensures read { ReadsOn (R.remaining r.old) (R.remaining r.new) self.old.rest self.new.rest }
@@ -119,6 +119,7 @@ impl Inbox {
                 self.filled += n;
                 Filled::More
             }
+            Err(error) if error.kind() == ErrorKind::Interrupted => Filled::More,
             Err(_) => Filled::End(Some(Fault::Read)),
         }
     }

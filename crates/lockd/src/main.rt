@@ -7,8 +7,8 @@
 //!   another `when_full` or rotation, or another trace than `opened` made, or has another status;
 //! - an `opened` or a `resume` whose file is at another path, or that is always refused; an `end_traced` that never asks
 //!   for the file;
-//! - a `remove_unused` that takes away the trace's file of a session that was served, or another's file, or leaves one
-//!   of none;
+//! - a `remove_unused` or a `remove_unserved` that takes away the trace's file of a session that was served, or
+//!   another's file, or leaves one of none;
 //! - any line of `--verbose`, and one without that option;
 //! - a `main` that prints no refusal, or ends with another status.
 //!
@@ -90,12 +90,13 @@ fn run<T: Threads + Wait + Net + Files + Sync>(
         Asked::Resume {
             socket,
             file,
+            is_new,
             when_stuck,
             rotation,
             rules,
         } => {
             let when = when_unwritten(*when_stuck);
-            let how = resuming(file.as_str(), when, rotation);
+            let how = resuming(file.as_str(), *is_new, when, rotation);
             resume(host, socket.as_str(), how, *rules)
         }
         Asked::Drive(socket) => drive(host, socket.as_str()),

@@ -6,14 +6,14 @@ ghost use Rattle.lockd.specs.Inside.{AsksFile, AsksRefusal, GoesWhere};
 ghost use Rattle.lockd_resume.specs.Ending.{Ends};
 
 use lockd_cli::{SaidRules, Trace, WhenFull, WhenStuck};
-use lockd_commands::{CommandFault, Noting, Rules, Status};
+use lockd_commands::{CommandFault, Noting, Rules, Status, end};
 use lockd_serve::{
-    Announcing, Observer, Resuming, Rotation, ServeOptions, TraceTo, Untraced, WhenUnwritten,
-    WhenWriterFails, end_traced_to, end_unopened, file_to_go_on_in, head_rules, is_unused,
-    new_file, remove_if_at, resume_on, serve_on,
+    Observer, Resuming, Rotation, ServeOptions, TracePath, TraceTo, TraceWriter, Untraced,
+    WhenUnwritten, WhenWriterFails, end_traced_to, end_unopened, file_to_go_on_in, head_rules,
+    is_at, is_unused, new_file, new_first_piece, next_name, remove_if_at, resume_on, serve_on,
 };
 use lockd_stdio::{Host, ServerWords, hold_closed_streams};
-use std::fs::{File, Files};
+use std::fs::{File, Files, TryLockError};
 use std::io;
 use std::io::{Stderr, Write};
 use std::net::Net;
@@ -22,7 +22,7 @@ use std::sync::Wait;
 use std::thread::Threads;
 
 // What writes a trace's file.
-type Written<'a> = Announcing<'a, File, Stderr>;
+type Written<'a> = TraceWriter<'a, &'a Stderr>;
 
 // What says what a server does.
 type Words<'a> = ServerWords<'a, HostRuntime, Stderr>;
@@ -40,8 +40,15 @@ pub(crate) fn serve<T: Threads + Wait + Net + Files + Sync>(
 {
     let rt = host.rt;
     hold_closed_streams(rt);
-    let mut words = server_words(host, socket, file_of(trace), rules);
-    let to = match opened(rt, trace, &mut rt.stderr(), &mut words) {
+    let name = file_of(trace);
+    let mut words = server_words(host, socket, name, rules);
+    let Ok(next) = next_name(rt.alloc(), name) else {
+        return end(&mut rt.stderr(), Err(CommandFault::NoMemory));
+    };
+    let next = next.as_str();
+    let notices = rt.stderr();
+    let at = TracePath { rt, name, next };
+    let to = match opened(at, trace, &notices, &mut rt.stderr(), &mut words) {
         Ok(to) => to,
         Err(status) => return status,
     };
@@ -65,7 +72,7 @@ fn serve_opened<T: Threads + Wait + Net + Files + Sync>(
 ) -> Status
     requires workers { (0 < options.workers) × (options.workers ≤ 16) }
 {
-    let made = kept_open(&options.trace);
+    let made = kept_open(rt, trace, &options.trace);
     let mut output = Noting::new(io::writer(rt));
     let mut faults = rt.stderr();
     let path = Path::new(socket);
@@ -80,15 +87,15 @@ fn serve_opened<T: Threads + Wait + Net + Files + Sync>(
     );
     words.printed(status, output.failed());
     remove_unused(rt, trace, &made, status);
-    end_traced(rt, trace, written, status, &mut faults, words)
+    end_traced(written, status, &mut faults, words)
 }
 
-/// `lockd serve --resume`.
+/// `lockd serve --resume`, and `lockd serve --trace --rotate`, whose file is new.
 pub(crate) fn resume(host: Host<'_>, socket: &str, how: Resuming<'_>, said: SaidRules) -> Status {
     let rt = host.rt;
     hold_closed_streams(rt);
     let standard = Rules::standard();
-    let mut trace = match file_to_go_on_in(rt, how.name) {
+    let mut trace = match piece_at_hand(rt, how) {
         Ok(trace) => trace,
         Err(why) => {
             let mut words = server_words(host, socket, how.name, said.over(standard));
@@ -97,7 +104,46 @@ pub(crate) fn resume(host: Host<'_>, socket: &str, how: Resuming<'_>, said: Said
     };
     let rules = said.over(head_rules(&mut trace).unwrap_or(standard));
     let mut words = server_words(host, socket, how.name, rules);
+    if how.is_new {
+        return begin_opened(rt, socket, rules, trace, how, &mut words);
+    }
     resume_opened(rt, socket, rules, trace, how, &mut words)
+}
+
+// The file of the trace. It is made if there is none, or if it has to be new.
+fn piece_at_hand(rt: &HostRuntime, how: Resuming<'_>) -> io::Result<File> {
+    if how.is_new {
+        return new_first_piece(rt, how.name);
+    }
+    file_to_go_on_in(rt, how.name)
+}
+
+// Begins a trace in a file that was made for it.
+fn begin_opened(
+    rt: &HostRuntime,
+    socket: &str,
+    rules: Rules,
+    trace: File,
+    how: Resuming<'_>,
+    words: &mut Words<'_>,
+) -> Status {
+    words.traced();
+    let made = opened_again(rt, how.name, &trace);
+    let status = resume_opened(rt, socket, rules, trace, how, words);
+    remove_unserved(rt, how.name, &made, status);
+    status
+}
+
+// This file, open once more at its path, so that no other file gets its number. It hasn't its lock, since it would keep
+// that of an older piece. None, if another file is there by now.
+fn opened_again(rt: &HostRuntime, name: &str, file: &File) -> Option<File> {
+    let path = Path::new(name);
+    let again = File::open(rt, path).ok()?;
+    if is_at(rt, path, file) && is_at(rt, path, &again) {
+        Some(again)
+    } else {
+        None
+    }
 }
 
 // Goes on in a file that was opened.
@@ -145,8 +191,9 @@ fn file_of(trace: &Trace) -> &str {
 
 // Where the trace of `lockd serve` goes. Its file is made before the server listens.
 fn opened<'a, F: Write, O: Observer>(
-    rt: &HostRuntime,
-    trace: &'a Trace,
+    at: TracePath<'a>,
+    trace: &Trace,
+    notices: &'a Stderr,
     faults: &mut F,
     words: &mut O,
 ) -> Result<TraceTo<Written<'a>>, Status>
@@ -161,19 +208,15 @@ fn opened<'a, F: Write, O: Observer>(
     match trace {
         Trace::Printed => Ok(TraceTo::Output),
         Trace::Nowhere => Ok(TraceTo::Nowhere),
-        Trace::File(file, _) => {
-            match new_file(rt, file.as_str(), rt.stderr(), words) {
-                Ok(written) => Ok(TraceTo::Writer(written)),
-                Err(error) => Err(end_unopened(faults, words, Untraced::Unopened(error))),
-            }
-        }
+        Trace::File(_, _) => match new_file(at, notices, words) {
+            Ok(written) => Ok(TraceTo::Writer(written)),
+            Err(error) => Err(end_unopened(faults, words, Untraced::Unopened(error))),
+        },
     }
 }
 
-// Ends a server with this status. If its trace's file was removed or replaced, that is told.
+// Ends a server with this status. If its trace's file was cut, or can't be put back at its path, that is told.
 fn end_traced<F: Write>(
-    rt: &HostRuntime,
-    trace: &Trace,
     written: Option<Written<'_>>,
     status: Status,
     faults: &mut F,
@@ -181,18 +224,19 @@ fn end_traced<F: Write>(
 ) -> Status
     ensures bad { status ≢ Status.Good → result ≡ status }
 {
-    match (trace, &written) {
-        (Trace::File(file, _), Some(written)) => {
-            end_traced_to(rt, file.as_str(), written.file(), status, faults, words)
+    match written {
+        Some(written) => {
+            let mut written = written;
+            end_traced_to(written.is_kept(), status, faults, words)
         }
-        _ => status,
+        None => status,
     }
 }
 
-// The trace's file, if it has one, open once more. So no other file gets its number, also once it was closed.
-fn kept_open(trace: &TraceTo<Written<'_>>) -> Option<File> {
-    match trace {
-        TraceTo::Writer(written) => written.file().try_clone().ok(),
+// The trace's file, if it has one, open once more.
+fn kept_open(rt: &HostRuntime, trace: &Trace, to: &TraceTo<Written<'_>>) -> Option<File> {
+    match to {
+        TraceTo::Writer(written) => opened_again(rt, file_of(trace), written.file().file()),
         TraceTo::Output | TraceTo::Nowhere => None,
     }
 }
@@ -207,6 +251,34 @@ fn remove_unused(rt: &HostRuntime, trace: &Trace, made: &Option<File>, status: S
     }
 }
 
+// Takes the first piece of a trace away if no session was served, unless another file is at its path by then, or
+// another server has it.
+fn remove_unserved(rt: &HostRuntime, path: &str, made: &Option<File>, status: Status) {
+    let Some(made) = made else {
+        return;
+    };
+    let is_unserved = is_unused(status) || status == Status::Faulted(CommandFault::Trace);
+    if is_unserved && is_empty(made) && !is_taken(made) {
+        remove_if_at(rt, path, made);
+    }
+}
+
+// Whether this file has nothing in it, as far as the system tells.
+fn is_empty(file: &File) -> bool {
+    match file.metadata() {
+        Ok(found) => found.len() == 0,
+        Err(_) => false,
+    }
+}
+
+// Whether another server has this file locked.
+fn is_taken(file: &File) -> bool {
+    match file.try_lock() {
+        Err(TryLockError::WouldBlock) => true,
+        Err(TryLockError::Error(_)) | Ok(()) => false,
+    }
+}
+
 // What happens to orders when the trace's file can't be written.
 fn when_full(trace: &Trace) -> WhenWriterFails
     ensures refuse { result ≡ WhenWriterFails.Refuse ↔ AsksRefusal trace.now }
@@ -218,14 +290,16 @@ fn when_full(trace: &Trace) -> WhenWriterFails
     }
 }
 
-/// How a server goes on in a trace's file at this path.
+/// How a server goes on in a trace's file at this path, which is new or not.
 pub(crate) fn resuming<'a>(
     name: &'a str,
+    is_new: bool,
     when: WhenUnwritten,
     said: &Option<lockd_cli::Rotation>,
 ) -> Resuming<'a> {
     Resuming {
         name,
+        is_new,
         when,
         rotation: said.map(rotation_of),
     }

@@ -40,6 +40,11 @@ abbrev pub IsNumberSaid : Option (List ℕ) → Option ℕ → Type 0
 IsNumberSaid None said = said ≡ None
 IsNumberSaid (Some text) said = (n : ℕ) → Spells text n → n < 2 ^ 32 → said ≡ Some n
 
+-- several workers are said
+abbrev pub AreSeveral : Option (List ℕ) → Type 0
+AreSeveral None = ⊥
+AreSeveral (Some text) = (n : ℕ) → Spells text n → AllowsWorkers n → 2 ≤ n
+
 -- a new piece may be due at so many bytes
 abbrev pub AllowsBytes : ℕ → Type 0
 AllowsBytes bytes = (1 ≤ bytes) × (bytes < 2 ^ 32)
@@ -90,7 +95,7 @@ abbrev pub IsNotForTrace : Found → Type 0
 IsNotForTrace found =
     (full_said found (codes "go-on") ≢ codes "go-on") × (full_said found (codes "go-on") ≢ codes "refuse")
 
--- the word isn't one for a file of `--resume`
+-- the word isn't one for a file of `--resume`, or of a trace in pieces
 abbrev pub IsNotForResume : Found → Type 0
 IsNotForResume found = (full_said found (codes "wait") ≢ codes "wait") × (full_said found (codes "wait") ≢ codes "end")
 
@@ -117,18 +122,26 @@ SaysTrace found (trace.File path full) =
     (first_value found (codes "trace") ≡ Some (string_bytes path)) × (string_bytes path ≢ codes "none")
     × SaysWhenFull found full
 
+-- no new file is named for the trace: it is printed, or goes nowhere
+abbrev pub NamesNoFile : Found → Type 0
+NamesNoFile found =
+    (first_value found (codes "trace") ≡ None) ⊎ (first_value found (codes "trace") ≡ Some (codes "none"))
+
 -- a word is said that isn't one for a file of `--trace`, or any if there is no such file
 abbrev pub MisfitsTrace : Found → Type 0
-MisfitsTrace found =
-    IsNotForTrace found
-    ⊎ (((first_value found (codes "trace") ≡ None) ⊎ (first_value found (codes "trace") ≡ Some (codes "none")))
-    × ¬ SaysNoFull found)
+MisfitsTrace found = IsNotForTrace found ⊎ (NamesNoFile found × ¬ SaysNoFull found)
 
--- a word is said that isn't one for the trace's file: that of `--resume`, or else that of `--trace`
+-- a trace in pieces is asked for that begins in a new file
+abbrev pub BeginsPieces : Found → Type 0
+BeginsPieces found =
+    (first_value found (codes "resume") ≡ None) × (first_value found (codes "rotate") ≢ None) × ¬ NamesNoFile found
+
+-- a word is said that isn't one for the trace's file: that of `--resume` or of a trace in pieces, or else that of
+-- `--trace`
 abbrev pub Misfits : Found → Type 0
 Misfits found =
-    ((first_value found (codes "resume") ≢ None) × IsNotForResume found)
-    ⊎ ((first_value found (codes "resume") ≡ None) × MisfitsTrace found)
+    (((first_value found (codes "resume") ≢ None) ⊎ BeginsPieces found) × IsNotForResume found)
+    ⊎ ((first_value found (codes "resume") ≡ None) × (first_value found (codes "rotate") ≡ None) × MisfitsTrace found)
 
 -- nothing is said of pieces
 abbrev pub SaysNoPieces : Found → Type 0
@@ -142,11 +155,23 @@ SaysRotation found (Some rotation) =
     (first_value found (codes "rotate") ≢ None) × IsDueAt (one_text found (codes "rotate")) rotation.bytes
     × AreKept (one_text found (codes "keep")) rotation.keep
 
--- an option of pieces lacks the one that it needs: `--rotate` lacks `--resume`, or `--keep` lacks `--rotate`
+-- an option of pieces lacks the one that it needs: `--rotate` lacks a file, or `--keep` lacks `--rotate`
 abbrev pub MisfitsPieces : Found → Type 0
 MisfitsPieces found =
-    ((first_value found (codes "rotate") ≢ None) × (first_value found (codes "resume") ≡ None))
+    ((first_value found (codes "rotate") ≢ None) × (first_value found (codes "resume") ≡ None) × NamesNoFile found)
     ⊎ ((first_value found (codes "keep") ≢ None) × (first_value found (codes "rotate") ≡ None))
+
+-- several workers are said of a trace in pieces
+abbrev pub MisfitsWorkers : Found → Type 0
+MisfitsWorkers found = BeginsPieces found × AreSeveral (one_text found (codes "workers"))
+
+-- The file that one worker writes, and goes on in if it isn't new: that of `--resume`, or the new one of a trace in
+-- pieces, with which one worker is said, or none.
+abbrev pub NamesFile : Found → Bool → Text → Type 0
+NamesFile found false file = first_value found (codes "resume") ≡ Some file
+NamesFile found true file =
+    BeginsPieces found × (first_value found (codes "trace") ≡ Some file)
+    × IsNumberOf (one_text found (codes "workers")) AllowsWorkers 1 1
 
 -- the path that is said for the socket
 abbrev pub socket_said : Found → List ℕ
@@ -162,7 +187,8 @@ Ask found (asked.Script rules) = SayRules found rules
 Ask found (asked.Bytes rules) = SayRules found rules
 Ask found (asked.State rules) = SayOwnRules found rules
 Ask found (asked.Check pieces quiet cut rules) =
-    (map string_bytes pieces.items ≡ pieces_said found) × IsFlagOf (one_text found (codes "quiet")) quiet × IsFlagOf (one_text found (codes "cut")) cut
+    (map string_bytes pieces.items ≡ pieces_said found)
+    × IsFlagOf (one_text found (codes "quiet")) quiet × IsFlagOf (one_text found (codes "cut")) cut
     × SayOwnRules found rules
 Ask found (asked.Locks at file json rules) =
     IsNumberSaid (one_text found (codes "at")) at
@@ -172,9 +198,9 @@ Ask found (asked.Serve socket workers trace rules) =
     (string_bytes socket ≡ socket_said found)
     × IsNumberOf (one_text found (codes "workers")) AllowsWorkers 4 workers
     × SaysTrace found trace × SayRules found rules × (first_value found (codes "resume") ≡ None) × SaysNoPieces found
-Ask found (asked.Resume socket file stuck rotation rules) =
-    (string_bytes socket ≡ socket_said found) × (first_value found (codes "resume") ≡ Some (string_bytes file))
-    × SaysWhenStuck found stuck × SaysRotation found rotation × SayOwnRules found rules
+Ask found (asked.Resume socket file new stuck rotation rules) =
+    (string_bytes socket ≡ socket_said found) × NamesFile found new (string_bytes file) × SaysWhenStuck found stuck
+    × SaysRotation found rotation × SayOwnRules found rules
 Ask found (asked.Drive socket) = string_bytes socket ≡ socket_said found
 Ask found asked.Version = ⊥
 
@@ -186,7 +212,7 @@ word_of (asked.State rules) = codes "state"
 word_of (asked.Check pieces quiet cut rules) = codes "check"
 word_of (asked.Locks at file json rules) = codes "locks"
 word_of (asked.Serve socket workers trace rules) = codes "serve"
-word_of (asked.Resume socket file stuck rotation rules) = codes "serve"
+word_of (asked.Resume socket file new stuck rotation rules) = codes "serve"
 word_of (asked.Drive socket) = codes "drive"
 word_of asked.Version = codes "--version"
 

@@ -1,7 +1,7 @@
 //! The commands of `lockd` and their options: a table of each, and what `clap` makes of it.
 
-use crate::options::MOST_WORKERS;
 use crate::rotation_options::LEAST_KEPT;
+use crate::serve_options::MOST_WORKERS;
 use crate::version::VERSION;
 use clap::builder::ValueParser;
 use clap::{Arg, ArgAction, Command, Error};
@@ -134,7 +134,7 @@ const SERVE: &[Argument] = &[
     SOCKET,
     Argument {
         name: "workers",
-        help: "How many workers take orders, 1 to 16; 4, if not said",
+        help: "How many workers take orders, 1 to 16; 4, if not said, and 1 with --rotate",
         kind: Kind::Between("N", 1, MOST_WORKERS as i64),
         conflicts_with: &[],
     },
@@ -152,7 +152,7 @@ const SERVE: &[Argument] = &[
     },
     Argument {
         name: "rotate",
-        help: "With --resume FILE: begins a new piece of the trace in FILE once that has so many bytes, and 65536 orders and replies behind its head; older pieces are FILE.1, FILE.2, and so on",
+        help: "With --resume FILE, or with --trace FILE and one worker: begins a new piece of the trace in FILE once that has so many bytes, and 65536 orders and replies behind its head; older pieces are FILE.1, FILE.2, and so on",
         kind: Kind::Between("BYTES", 1, u32::MAX as i64),
         conflicts_with: &[],
     },
@@ -162,10 +162,10 @@ const SERVE: &[Argument] = &[
         kind: Kind::Between("N", LEAST_KEPT as i64, u32::MAX as i64),
         conflicts_with: &[],
     },
-    // The first two words go with --trace, and the others with --resume.
+    // The first two words go with --trace, and the others with --resume or --rotate.
     Argument {
         name: "trace-full",
-        help: "What happens while the trace's file can't be written. With --trace FILE orders go on without it, if not said; refuse has replies wait until their lines are in the file, and refuses what can't be taken meanwhile. With --resume FILE clients wait, if not said, or the session ends",
+        help: "What happens while the trace's file can't be written. With --trace FILE orders go on without it, if not said; refuse has replies wait until their lines are in the file, and refuses what can't be taken meanwhile. With --resume FILE or --rotate BYTES clients wait, if not said, or the session ends",
         kind: Kind::OneOf(&["go-on", "refuse", "wait", "end"]),
         conflicts_with: &[],
     },

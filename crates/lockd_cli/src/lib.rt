@@ -4,7 +4,8 @@
 //! private contract, `asked_by`, says what is asked for by the command and the texts that `clap` found: the socket, the
 //! workers, the trace, the file of `--resume`, `--rotate`, `--keep`, `--trace-full`, `--quiet`, `--cut` and the rules.
 //! `is_verbose` says the same of `--verbose`. `serve_of` says when the word of `--trace-full` doesn't fit the trace,
-//! and when `--rotate` and `--keep` lack the option that they need. `read_words` repeats none of them. `clap` doesn't
+//! when `--rotate` and `--keep` lack the option that they need, and when `--rotate` is said of a new file with several
+//! workers. `read_words` repeats none of them. `clap` doesn't
 //! state which words it takes for which text, if options and commands exclude each other, as they do here. Contracts
 //! let through:
 //! - a `print_version` that always fails, and another version;
@@ -27,6 +28,7 @@ mod options;
 mod rotation;
 mod rotation_options;
 mod said_rules;
+mod serve_options;
 mod usage_error;
 mod version;
 

@@ -1,30 +1,23 @@
 //! What a command line asks for, read by `clap`.
 
-ghost use Rattle.std.specs.Prelude.{◌≡◌, ◌≢◌, ◌↔◌, ◌≤◌, ◌<◌, ◌^◌, ◌++◌, ℕ, List, None, Some, IfErr, IfOk, OnOk};
+ghost use Rattle.std.specs.Prelude.{◌≡◌, ◌<◌, ◌^◌, ◌++◌, ℕ, List, None, Some, IfErr, IfOk, OnOk};
 ghost use Rattle.std.specs.Prelude.{codes, map, option_map};
 ghost use Rattle.std.specs.String.{string_bytes};
 ghost use Rattle.clap.specs.Matches.{found_of, one_text};
 ghost use Rattle.clap.specs.Words.{first_value};
-ghost use Rattle.lockd_cli.specs.Inside.{Ask, AsksFor, AsksMore, IsNotForResume, IsNotForTrace, Misfits, MisfitsPieces};
-ghost use Rattle.lockd_cli.specs.Inside.{MisfitsTrace, SayOwnRules, SayRules, SaysNoFull, SaysTrace, SaysWhenFull};
-ghost use Rattle.lockd_cli.specs.Inside.{SaysWhenStuck, Spells, pieces_said, socket_said, word_of};
+ghost use Rattle.lockd_cli.specs.Inside.{Ask, AsksFor, AsksMore, SayOwnRules, SayRules, Spells};
+ghost use Rattle.lockd_cli.specs.Inside.{pieces_said, socket_said, word_of};
 ghost use Rattle.lockd_cli.specs.Numbers.{HasWorkers};
 
 use crate::command::lockd;
 use crate::rotation::Rotation;
-use crate::rotation_options::{refuse_pieces, rotation_of};
 use crate::said_rules::SaidRules;
+use crate::serve_options::serve_of;
 use crate::usage_error::UsageError;
 use clap::ArgMatches;
 use clap::error::ErrorKind;
 use fl_waiting::Rules;
 use std::alloc::{AllocError, Global};
-
-/// The most workers of a server.
-pub(crate) const MOST_WORKERS: u32 = 16;
-
-// Its workers if none are said.
-const STANDARD_WORKERS: u32 = 4;
 
 /// A command line.
 #[derive(Drop)]
@@ -84,6 +77,8 @@ pub enum Asked {
         socket: String,
         /// The path of the trace's file.
         file: String,
+        /// Whether the file is made, and none may be there: one with no lines, whose trace goes on in new pieces.
+        is_new: bool,
         /// What becomes of the session while the file can't be written.
         when_stuck: WhenStuck,
         /// When it goes on in a new piece, and how many stay; never, if that isn't said.
@@ -183,14 +178,14 @@ fn asked_by(alloc: Global, matches: &ArgMatches<'_>) -> Result<Asked, UsageError
 }
 
 // The rules that options say, and the standard ones if they say nothing.
-fn rules_of(options: &ArgMatches<'_>) -> Rules
+pub(crate) fn rules_of(options: &ArgMatches<'_>) -> Rules
     ensures { SayRules (found_of options.now) result }
 {
     said_rules_of(options).over(Rules::standard())
 }
 
 // What options say of rules.
-fn said_rules_of(options: &ArgMatches<'_>) -> SaidRules
+pub(crate) fn said_rules_of(options: &ArgMatches<'_>) -> SaidRules
     ensures { SayOwnRules (found_of options.now) result }
 {
     SaidRules {
@@ -282,133 +277,11 @@ fn file_of(alloc: Global, options: &ArgMatches<'_>) -> Result<Option<String>, Us
     }
 }
 
-// What the options of `serve` ask for.
-fn serve_of(alloc: Global, options: &ArgMatches<'_>) -> Result<Asked, UsageError>
-    ensures workers { IfOk result HasWorkers }
-    ensures serve { IfOk result (λ asked. word_of asked ≡ codes "serve") }
-    ensures said { IfOk result (Ask (found_of options.now)) }
-    ensures refused { IfErr result (λ error. error ≡ UsageError.TraceFull → Misfits (found_of options.now)) }
-    ensures pieces { IfErr result (λ error. error ≡ UsageError.Rotate → MisfitsPieces (found_of options.now)) }
-{
-    match options.get_str("resume") {
-        Some(file) => resume_of(alloc, options, file),
-        None => begin_of(alloc, options),
-    }
-}
-
-// What the options of `serve` ask for if they name a file to go on in.
-fn resume_of(alloc: Global, options: &ArgMatches<'_>, file: &str) -> Result<Asked, UsageError>
-    requires { first_value (found_of options.now) (codes "resume") ≡ Some file.now }
-    ensures workers { IfOk result HasWorkers }
-    ensures serve { IfOk result (λ asked. word_of asked ≡ codes "serve") }
-    ensures said { IfOk result (Ask (found_of options.now)) }
-    ensures refused { IfErr result (λ error. error ≡ UsageError.TraceFull → Misfits (found_of options.now)) }
-    ensures pieces { IfErr result (λ error. error ≡ UsageError.Rotate → MisfitsPieces (found_of options.now)) }
-{
-    let when_stuck = when_stuck_of(options)?;
-    let rotation = rotation_of(options)?;
-    let socket = socket_of(alloc, options)?;
-    let file = String::from_str(alloc, file)?;
-    Ok(Asked::Resume {
-        socket,
-        file,
-        when_stuck,
-        rotation,
-        rules: said_rules_of(options),
-    })
-}
-
-// What the options of `serve` ask for if they name none; four workers, if no number of them is there.
-fn begin_of(alloc: Global, options: &ArgMatches<'_>) -> Result<Asked, UsageError>
-    requires { first_value (found_of options.now) (codes "resume") ≡ None }
-    ensures workers { IfOk result HasWorkers }
-    ensures serve { IfOk result (λ asked. word_of asked ≡ codes "serve") }
-    ensures said { IfOk result (Ask (found_of options.now)) }
-    ensures refused { IfErr result (λ error. error ≡ UsageError.TraceFull → Misfits (found_of options.now)) }
-    ensures pieces { IfErr result (λ error. error ≡ UsageError.Rotate → MisfitsPieces (found_of options.now)) }
-{
-    refuse_pieces(options)?;
-    let workers = workers_of(number_of(options, "workers"));
-    let socket = socket_of(alloc, options)?;
-    let trace = trace_of(alloc, options)?;
-    if workers == 1 && matches!(trace, Trace::File(_, WhenFull::Refuse)) {
-        return Err(UsageError::OneWorker);
-    }
-    Ok(Asked::Serve {
-        socket,
-        workers,
-        trace,
-        rules: rules_of(options),
-    })
-}
-
-// So many workers as are said, and four if none are. `clap` lets no number through that is out of its range; such a
-// one would become the nearest that isn't.
-fn workers_of(said: Option<u32>) -> u32
-    ensures standard { said ≡ None → result ≡ 4 }
-    ensures said { (n : ℕ) → said ≡ Some n → 1 ≤ n → n ≤ 16 → result ≡ n }
-    ensures range { (1 ≤ result) × (result ≤ 16) }
-{
-    said.unwrap_or(STANDARD_WORKERS).clamp(1, MOST_WORKERS)
-}
-
 // The socket that a command's options name; it is required.
-fn socket_of(alloc: Global, options: &ArgMatches<'_>) -> Result<String, UsageError>
+pub(crate) fn socket_of(alloc: Global, options: &ArgMatches<'_>) -> Result<String, UsageError>
     ensures refused { IfErr result (λ error. error ≡ UsageError.NoMemory) }
     ensures said { IfOk result (λ socket. string_bytes socket ≡ socket_said (found_of options.now)) }
 {
     let socket = options.get_str("SOCKET").unwrap_or("");
     Ok(String::from_str(alloc, socket)?)
-}
-
-// Where the options send the trace. A file named none is ./none.
-fn trace_of(alloc: Global, options: &ArgMatches<'_>) -> Result<Trace, UsageError>
-    ensures said { IfOk result (SaysTrace (found_of options.now)) }
-    ensures refused { IfErr result (λ error. error ≡ UsageError.TraceFull → MisfitsTrace (found_of options.now)) }
-    ensures others { IfErr result (λ error. error ≢ UsageError.Rotate) }
-{
-    let Some(trace) = options.get_str("trace") else {
-        return without_file(options, Trace::Printed);
-    };
-    if trace == "none" {
-        return without_file(options, Trace::Nowhere);
-    }
-    let when_full = when_full_of(options)?;
-    Ok(Trace::File(String::from_str(alloc, trace)?, when_full))
-}
-
-// This trace, if the options don't say what becomes of orders once its file can't be written: it has none.
-fn without_file(options: &ArgMatches<'_>, trace: Trace) -> Result<Trace, UsageError>
-    ensures same { IfOk result (λ it. it ≡ trace) }
-    ensures said { OnOk result (SaysNoFull (found_of options.now)) }
-    ensures refused { IfErr result (λ error. (error ≡ UsageError.TraceFull) × ¬ SaysNoFull (found_of options.now)) }
-{
-    match options.get_str("trace-full") {
-        None => Ok(trace),
-        Some(_) => Err(UsageError::TraceFull),
-    }
-}
-
-// What the options say of orders once the trace's file can't be written.
-fn when_full_of(options: &ArgMatches<'_>) -> Result<WhenFull, UsageError>
-    ensures said { IfOk result (SaysWhenFull (found_of options.now)) }
-    ensures refused { IfErr result (λ error. (error ≡ UsageError.TraceFull) × IsNotForTrace (found_of options.now)) }
-{
-    match options.get_str("trace-full").unwrap_or("go-on") {
-        "go-on" => Ok(WhenFull::GoOn),
-        "refuse" => Ok(WhenFull::Refuse),
-        _ => Err(UsageError::TraceFull),
-    }
-}
-
-// What the options say of a session while the file that it goes on in can't be written.
-fn when_stuck_of(options: &ArgMatches<'_>) -> Result<WhenStuck, UsageError>
-    ensures said { IfOk result (SaysWhenStuck (found_of options.now)) }
-    ensures refused { IfErr result (λ error. (error ≡ UsageError.TraceFull) × IsNotForResume (found_of options.now)) }
-{
-    match options.get_str("trace-full").unwrap_or("wait") {
-        "wait" => Ok(WhenStuck::Wait),
-        "end" => Ok(WhenStuck::End),
-        _ => Err(UsageError::TraceFull),
-    }
 }

@@ -4,7 +4,8 @@ ghost use Rattle.std.specs.Prelude.{◌≡◌, ◌≤◌, ℕ, None, Some, IfErr
 ghost use Rattle.std.specs.Option.{ForSome};
 ghost use Rattle.clap.specs.Matches.{found_of, one_text};
 ghost use Rattle.clap.specs.Words.{first_value};
-ghost use Rattle.lockd_cli.specs.Inside.{AreKept, IsDueAt, MisfitsPieces, SaysNoPieces, SaysRotation};
+ghost use Rattle.lockd_cli.specs.Inside.{AllowsWorkers, AreKept, AreSeveral, IsDueAt, IsNumberOf, MisfitsPieces};
+ghost use Rattle.lockd_cli.specs.Inside.{SaysRotation};
 
 use crate::options::number_of;
 use crate::rotation::Rotation;
@@ -15,7 +16,7 @@ use clap::ArgMatches;
 /// The fewest pieces that stay: messages that are sent again after a restart may be answered in the last but one.
 pub(crate) const LEAST_KEPT: u32 = 2;
 
-// What the options say of pieces, if they name a file to go on in.
+// What the options say of pieces.
 pub(crate) fn rotation_of(options: &ArgMatches<'_>) -> Result<Option<Rotation>, UsageError>
     ensures said { IfOk result (SaysRotation (found_of options.now)) }
     ensures refused { IfErr result (λ error. (error ≡ UsageError.Rotate) × MisfitsPieces (found_of options.now)) }
@@ -59,14 +60,14 @@ fn kept(said: Option<u32>) -> Option<u32>
     Some(said?.max(LEAST_KEPT))
 }
 
-// Refuses what options say of pieces, if they name no file to go on in.
-pub(crate) fn refuse_pieces(options: &ArgMatches<'_>) -> Result<(), UsageError>
-    requires { first_value (found_of options.now) (codes "resume") ≡ None }
-    ensures unsaid { OnOk result (SaysNoPieces (found_of options.now)) }
-    ensures refused { IfErr result (λ error. (error ≡ UsageError.Rotate) × MisfitsPieces (found_of options.now)) }
+// Refuses options that say several workers, if the trace goes on in pieces.
+pub(crate) fn refuse_several(options: &ArgMatches<'_>) -> Result<(), UsageError>
+    ensures one { OnOk result (IsNumberOf (one_text (found_of options.now) (codes "workers")) AllowsWorkers 1 1) }
+    ensures refused { IfErr result (λ error.
+        (error ≡ UsageError.ManyWorkers) × AreSeveral (one_text (found_of options.now) (codes "workers"))) }
 {
-    match rotation_of(options)? {
-        None => Ok(()),
-        Some(_) => Err(UsageError::Rotate),
+    match number_of(options, "workers") {
+        None | Some(0..=1) => Ok(()),
+        Some(_) => Err(UsageError::ManyWorkers),
     }
 }

@@ -14,12 +14,14 @@ pub enum UsageError {
     NoMemory,
     #[error("the command line can't be read: {0}\n")]
     Words(io::Error),
-    #[error("error: '--trace-full' takes go-on or refuse with '--trace FILE', and wait or end with '--resume FILE'\n\nFor more information, try '--help'.\n")]
+    #[error("error: '--trace-full' takes go-on or refuse with '--trace FILE', and wait or end with '--resume FILE' or '--rotate BYTES'\n\nFor more information, try '--help'.\n")]
     TraceFull,
     #[error("error: '--trace-full refuse' takes two workers or more: while one waits to write, another refuses orders\n\nFor more information, try '--help'.\n")]
     OneWorker,
-    #[error("error: '--rotate' needs '--resume FILE', and '--keep' needs '--rotate BYTES'\n\nFor more information, try '--help'.\n")]
+    #[error("error: '--rotate' needs '--resume FILE' or '--trace FILE', and '--keep' needs '--rotate BYTES'\n\nFor more information, try '--help'.\n")]
     Rotate,
+    #[error("error: '--rotate' takes one worker: with several, the head of a new piece would be told while others take orders\n\nFor more information, try '--help'.\n")]
+    ManyWorkers,
     #[error("{0}")]
     CommandLine(clap::Error),
 }

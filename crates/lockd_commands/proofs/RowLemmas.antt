@@ -10,7 +10,7 @@ use Rattle.lockd_commands.specs.declared.row.Failed.{Failed}
 use Rattle.lockd_commands.specs.declared.row.Failed.TheVariants as failed
 
 -- an audit gave up, and nothing was written
-pub gave_up : (rules : Rules) (lefts : List (Option (List ℕ))) (held : Option (List ℕ)) (fault : RowFault) (why : Failed)
+pub gave_up : (rules : List Rules) (lefts : List (Option (List ℕ))) (held : Option (List ℕ)) (fault : RowFault) (why : Failed)
     → IsFailureOf fault why
     → ((piece line : ℕ) → fault ≡ record { piece = piece; fault = audits.BadLine line }
     → IsSoOfTexts lefts (λ texts. IsBadRow rules texts piece line))

@@ -19,21 +19,23 @@ abbrev pub row_text : RowFinding → List ℕ
 row_text Legal = codes "legal" ++ 10 ∷ []
 row_text (Differs at) = codes "differs " ++ place_text at
 
--- the pieces were judged so, and the answer was written
-pub record IsRowJudged (rules : Rules) (lefts : List (Option (List ℕ))) (old new : Option (List ℕ)) (finding : RowFinding)
-    : Type 0 where
+-- the pieces were judged so, each by its rules, and the answer was written
+pub record IsRowJudged (rules : List Rules) (lefts : List (Option (List ℕ))) (old new : Option (List ℕ))
+    (finding : RowFinding) : Type 0 where
   pub found : IsSoOfTexts lefts (λ texts. IsRowFinding rules texts finding)
   pub written : Appends old new (row_text finding)
 
 -- the pieces were judged, and a beginning of the answer was written
-pub record IsRowJudgedInPart (rules : Rules) (lefts : List (Option (List ℕ))) (old new : Option (List ℕ)) : Type 0 where
+pub record IsRowJudgedInPart (rules : List Rules) (lefts : List (Option (List ℕ))) (old new : Option (List ℕ))
+    : Type 0 where
   pub finding : RowFinding
   pub found : IsSoOfTexts lefts (λ texts. IsRowFinding rules texts finding)
   pub begun : IsBegun (row_text finding) old new
 
 -- Line n of some piece is the first that is no line of a history, and that was reported, or after a failed write a
 -- prefix of it.
-pub record IsBadRowTold (rules : Rules) (lefts : List (Option (List ℕ))) (n : ℕ) (old new : Option (List ℕ)) : Type 0 where
+pub record IsBadRowTold (rules : List Rules) (lefts : List (Option (List ℕ))) (n : ℕ) (old new : Option (List ℕ))
+    : Type 0 where
   pub piece : ℕ
   pub bad : IsSoOfTexts lefts (λ texts. IsBadRow rules texts piece n)
   pub begun : IsBegun (codes "bad line " ++ place_text (record { piece = piece; line = n })) old new

@@ -27,7 +27,7 @@ mod verbose;
 
 pub use bytes::bytes_on;
 pub use check::{CheckOptions, check_on};
-pub use fl_audit::{Details, Opening, read_opening};
+pub use fl_audit::{Details, Opening, PieceReader, read_opening};
 pub use fl_core::Rules;
 pub use fl_trace::LINE_ROOM;
 pub use lockd_faults::{CommandFault, Noting, Status, end};

@@ -1,7 +1,8 @@
 //! `lockd check PIECE..`: judges a history that stands in pieces.
 
-ghost use Rattle.std.specs.Prelude.{◌≡◌, ◌≢◌, ◌⊎◌, ◌++◌, ℕ, codes, map, string_bytes, IfOk, IfErr};
+ghost use Rattle.std.specs.Prelude.{◌≡◌, ◌≢◌, ◌⊎◌, ◌++◌, ℕ, codes, string_bytes, IfOk, IfErr};
 ghost use Rattle.std.specs.Io.KnownBytes.{Keeps};
+ghost use Rattle.fl_audit.specs.Rows.{left_of, rules_of};
 ghost use Rattle.fl_audit.specs.declared.row.PieceLine.{PieceLine as Place};
 ghost use Rattle.fl_audit.specs.declared.row.RowFinding.TheVariants as said;
 ghost use Rattle.lockd_commands.specs.Faults.{IsOfText};
@@ -10,8 +11,7 @@ ghost use Rattle.lockd_commands.specs.Row.Inside.{IsBadOr, IsFailure, IsFailureO
 ghost use Rattle.lockd_faults.specs.Faults.{IsBegun, IsTold};
 ghost use Rattle.lockd_faults.specs.declared.fault.CommandFault.{CommandFault};
 
-use fl_audit::{AuditFault, Details, PieceLine, RowFault, RowFinding, audit_row};
-use fl_core::Rules;
+use fl_audit::{AuditFault, Details, PieceLine, PieceReader, RowFault, RowFinding, audit_row};
 use lockd_faults::{CommandFault, Status, end, write_all};
 use std::alloc::{AllocError, Global};
 use std::io::{Read, Write};
@@ -31,31 +31,33 @@ enum Failed {
 }
 
 /// `lockd check PIECE..`: reads the pieces of a history to their ends, one after another, and writes `legal`, or
-/// `differs N of P`: line N of piece P, both counted from 1, is the first that breaks these rules, or doesn't go on from
-/// the piece before, as `audit_row` says. A fault is one line on `faults`: `bad line N of P`, or any other as `check`
-/// tells it. It takes memory for two directories. `details` gets what is told of the lines of the last piece that was
-/// read.
+/// `differs N of P`: line N of piece P, both counted from 1, is the first that breaks its piece's rules, or doesn't go on
+/// from the piece before, as `audit_row` says. A fault is one line on `faults`: `bad line N of P`, or any other as
+/// `check` tells it. It takes memory for two directories. `details` gets what is told of the lines of the last piece
+/// that was read.
 pub fn check_row_on<R: Read, W: Write, F: Write>(
     alloc: Global,
-    rules: Rules,
-    pieces: &mut [R],
+    pieces: &mut [PieceReader<R>],
     output: &mut W,
     faults: &mut F,
     details: &mut Details,
 ) -> Status
     ensures legal { result ≡ Status.Good →
-        IsRowJudged rules (map R.remaining pieces.old) (W.contents output.old) (W.contents output.new) said.Legal }
+        IsRowJudged (rules_of pieces.old) (left_of R.remaining pieces.old) (W.contents output.old)
+        (W.contents output.new) said.Legal }
     ensures differs { result ≡ Status.Different → (at : Place) ×
-        IsRowJudged rules (map R.remaining pieces.old) (W.contents output.old) (W.contents output.new)
-        (said.Differs at) }
+        IsRowJudged (rules_of pieces.old) (left_of R.remaining pieces.old) (W.contents output.old)
+        (W.contents output.new) (said.Differs at) }
 
     // The pieces before that one are in a row, its first n - 1 lines are lines of a trace, and the next is none.
     ensures bad { (n : ℕ) → result ≡ Status.Faulted (CommandFault.BadLine n) →
-        IsBadRowTold rules (map R.remaining pieces.old) n (F.contents faults.old) (F.contents faults.new) }
+        IsBadRowTold (rules_of pieces.old) (left_of R.remaining pieces.old) n (F.contents faults.old)
+        (F.contents faults.new) }
 
     // Only a write that fails leaves anything on the output: a beginning of the answer.
     ensures begun { result ≡ Status.Faulted CommandFault.Write →
-        IsRowJudgedInPart rules (map R.remaining pieces.old) (W.contents output.old) (W.contents output.new) }
+        IsRowJudgedInPart (rules_of pieces.old) (left_of R.remaining pieces.old) (W.contents output.old)
+        (W.contents output.new) }
     ensures kept { (fault : CommandFault) → result ≡ Status.Faulted fault → fault ≢ CommandFault.Write →
         Keeps (W.contents output.old) (W.contents output.new) }
     ensures faulted { (fault : CommandFault) → result ≡ Status.Faulted fault →
@@ -63,8 +65,9 @@ pub fn check_row_on<R: Read, W: Write, F: Write>(
         IsOfText fault × IsTold fault (F.contents faults.old) (F.contents faults.new) }
     ensures quiet { (result ≡ Status.Good) ⊎ (result ≡ Status.Different) →
         Keeps (F.contents faults.old) (F.contents faults.new) }
+    ensures rules { rules_of pieces.new ≡ rules_of pieces.old }
 {
-    match judge_row(alloc, rules, pieces, output, details) {
+    match judge_row(alloc, pieces, output, details) {
         Ok(RowFinding::Legal) => Status::Good,
         Ok(RowFinding::Differs(_)) => Status::Different,
         Err(Failed::BadLine(bad)) => tell_bad(&bad, faults),
@@ -75,17 +78,17 @@ pub fn check_row_on<R: Read, W: Write, F: Write>(
 // What is found of pieces, once it is written.
 fn judge_row<R: Read, W: Write>(
     alloc: Global,
-    rules: Rules,
-    pieces: &mut [R],
+    pieces: &mut [PieceReader<R>],
     output: &mut W,
     details: &mut Details,
 ) -> Result<RowFinding, Failed>
-    ensures judged { IfOk result
-        (IsRowJudged rules (map R.remaining pieces.old) (W.contents output.old) (W.contents output.new)) }
-    ensures failed { IfErr result
-        (IsFailure rules (map R.remaining pieces.old) (W.contents output.old) (W.contents output.new)) }
+    ensures judged { IfOk result (IsRowJudged (rules_of pieces.old) (left_of R.remaining pieces.old)
+        (W.contents output.old) (W.contents output.new)) }
+    ensures failed { IfErr result (IsFailure (rules_of pieces.old) (left_of R.remaining pieces.old)
+        (W.contents output.old) (W.contents output.new)) }
+    ensures rules { rules_of pieces.new ≡ rules_of pieces.old }
 {
-    let finding = match audit_row(alloc, rules, pieces, details) {
+    let finding = match audit_row(alloc, pieces, details) {
         Ok(finding) => finding,
         Err(fault) => return Err(failure_of(alloc, fault)),
     };

@@ -1,5 +1,5 @@
-//! How a command ends, and what it tells; whole inputs and outputs; a trace that is printed; lines of a text and
-//! lines of hex; why a line is bad; streams that keep what went wrong.
+//! How a command ends, and what it tells; what a server tells of itself; whole inputs and outputs; a trace that is
+//! printed; lines of a text and lines of hex; why a line is bad; streams that keep what went wrong.
 //!
 //! `print_fault` and `end` wrote the fault's line or a beginning of it, the empty one too, and their signatures give
 //! them no memory. Contracts see no failure of a reader or a writer. They let through:
@@ -16,6 +16,7 @@ mod fault;
 mod hex_lines;
 mod line_buffer;
 mod noting;
+mod observer;
 mod printing;
 mod status;
 mod streams;
@@ -24,6 +25,7 @@ pub use bad_line::{Why, why_bad, why_bad_hex, why_bad_order};
 pub use fault::{CommandFault, print_fault};
 pub use hex_lines::{push_line, read_line, split_line};
 pub use noting::Noting;
+pub use observer::{Misfit, Observer, Parting, Untraced};
 pub use printing::print;
-pub use status::{Status, end};
+pub use status::{Status, end, end_without_file};
 pub use streams::{read_all, write_all};

@@ -1,6 +1,6 @@
 //! How a command ended, and its exit status.
 
-ghost use Rattle.std.specs.Prelude.{◌≡◌, IfErr, OnOk};
+ghost use Rattle.std.specs.Prelude.{◌≡◌, ◌≢◌, IfErr, OnOk};
 ghost use Rattle.std.specs.Io.KnownBytes.{Keeps};
 ghost use Rattle.lockd_faults.specs.Faults.{IsTold};
 
@@ -44,6 +44,26 @@ pub fn end<F: Write>(faults: &mut F, done: Result<(), CommandFault>) -> Status
         Err(fault) => {
             print_fault(faults, fault);
             Status::Faulted(fault)
+        }
+    }
+}
+
+/// The status of a server that ended with this one, and whose trace's file is gone: `faults` gets `trace failed`, if
+/// that wasn't told.
+pub fn end_without_file<F: Write>(faults: &mut F, status: Status) -> Status
+    ensures good { status ≡ Status.Good → result ≡ Status.Faulted CommandFault.TraceFailed }
+    ensures bad { status ≢ Status.Good → result ≡ status }
+    ensures told { status ≢ Status.Faulted CommandFault.TraceFailed
+        → IsTold CommandFault.TraceFailed (F.contents faults.old) (F.contents faults.new) }
+    ensures untold { status ≡ Status.Faulted CommandFault.TraceFailed
+        → Keeps (F.contents faults.old) (F.contents faults.new) }
+{
+    match status {
+        Status::Good => end(faults, Err(CommandFault::TraceFailed)),
+        Status::Faulted(CommandFault::TraceFailed) => status,
+        Status::Faulted(_) | Status::Different => {
+            print_fault(faults, CommandFault::TraceFailed);
+            status
         }
     }
 }

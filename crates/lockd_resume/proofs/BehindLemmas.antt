@@ -19,6 +19,7 @@ use Rattle.lockd_faults.specs.declared.status.Status.{Status}
 use Rattle.lockd_faults.specs.declared.status.Status.TheVariants.{Faulted, Good}
 use Rattle.lockd_resume.specs.Behind.{EndsBehind, FileSays, ServesBehind}
 use Rattle.lockd_resume.specs.Ending.{Ending, Ends}
+use Rattle.lockd_resume.specs.Heard.{Text}
 use Rattle.lockd_resume.specs.Inside.{told_of_reading}
 use Rattle.lockd_resume.specs.Resumed.{IsOverBehind}
 use Rattle.lockd_resume.specs.declared.behind.ResumedRun.{ResumedRun}
@@ -29,12 +30,14 @@ any_text None Says so = record { text = []; read = tt; is = so [] }
 any_text (Some text) Says so = record { text = text; read = refl; is = so text }
 
 -- the fault of a reading
-pub unread : (rules : Rules) (left : Option (List ℕ)) (fault : AuditFault)
+pub unread : (rules : Rules) (before : Option (List Text)) (left : Option (List ℕ)) (fault : AuditFault)
     → ((n : ℕ) → fault ≡ reading.BadLine n → IsSoOfAll left (λ text. BreaksAt LineFits (whole_lines text) n))
-    → IsSoOfAll left (λ text. FileSays rules text (told_of_reading fault))
-unread rules left (reading.BadLine n) bad = bad n refl
-unread rules left reading.NoMemory bad = any_text left (λ text. FileSays rules text command.NoMemory) (λ text. tt)
-unread rules left reading.Read bad = any_text left (λ text. FileSays rules text command.Read) (λ text. tt)
+    → IsSoOfAll left (λ text. FileSays rules before text (told_of_reading fault))
+unread rules before left (reading.BadLine n) bad = bad n refl
+unread rules before left reading.NoMemory bad =
+    any_text left (λ text. FileSays rules before text command.NoMemory) (λ text. tt)
+unread rules before left reading.Read bad =
+    any_text left (λ text. FileSays rules before text command.Read) (λ text. tt)
 
 -- what is told is told behind what stays as it is
 kept_before : (bytes : List ℕ) (old between new : Option (List ℕ)) → Keeps old between → IsBegun bytes between new
@@ -92,11 +95,11 @@ module _ (status result : Status) (told between now : Option (List ℕ))
       (bad (subst (λ s. s ≢ Good) (sym ends.0) (λ e. cc)) ∙ ends.0, kept_behind _ told between now ends.1 (keeps ends.0))
 
 -- a session went on behind some lines, and this is what is told of it at last
-pub serves : {T : Type 0} (single : Bool) (rules now : Rules) (heard base : List Line) (contents : T → Option (List ℕ)) (streams : Streams)
+pub serves : {T : Type 0} (rules now : Rules) (heard base : List Line) (contents : T → Option (List ℕ)) (streams : Streams)
     (before it : Ending) (run : ResumedRun T) (whole : Bool) → now ≡ rules
-    → IsOverBehind single now heard base contents streams before run → EndsBehind run.fault whole it → ServesBehind rules it
-serves single rules now heard base contents streams before it run whole same over ends =
-    let there = subst (λ r. IsOverBehind single r heard base contents streams before run) same over in
+    → IsOverBehind now heard base contents streams before run → EndsBehind run.fault whole it → ServesBehind rules it
+serves rules now heard base contents streams before it run whole same over ends =
+    let there = subst (λ r. IsOverBehind r heard base contents streams before run) same over in
     record {
       heard = heard;
       base = base;

@@ -1,6 +1,6 @@
 -- What is read of a text that was cut off.
 use Rattle.std.proofs.Common.{◌≡◌, ◌⊎◌, inl, inr, ℕ, suc, ◌+◌, ◌-◌, ◌^◌, ◌<◌, ◌≤◌, min, Bool, true, false, ◌||◌, ◌==◌, ◌↔◌, cond, if◌then◌else◌}
-use Rattle.std.proofs.Common.{List, [], ◌∷◌, ◌++◌}
+use Rattle.std.proofs.Common.{List, [], ◌∷◌, ◌++◌, Option}
 use Rattle.std.proofs.Common.{length, map, refl, ap, sym, ◌∙◌, subst, arith, append_assoc, append-nil, length-append}
 use Rattle.std.proofs.lemmas.Bool.{cases_lt, ne_eqb}
 use Rattle.std.proofs.lemmas.List.{append_cancel_left}
@@ -24,7 +24,7 @@ use Rattle.fl_waiting.specs.declared.rules.Rules.{Rules}
 use Rattle.lockd_faults.specs.declared.fault.CommandFault.{CommandFault}
 use Rattle.lockd_faults.specs.declared.fault.CommandFault.TheVariants as command
 use Rattle.lockd_resume.specs.Behind.{DiffersIn, FileSays, LacksLines}
-use Rattle.lockd_resume.specs.Heard.{AreEnough}
+use Rattle.lockd_resume.specs.Heard.{AreEnough, AreHeard, Earlier, Text}
 use Rattle.fl_trace.specs.Text.{BreaksAt, line_text, text_of, Fits, LineFits}
 
 -- what `fl_trace` says of the text of lines
@@ -57,6 +57,18 @@ enough_there lines none (inr many) = inl many
 -- so they are enough
 enough_alone : (lines : List Line) → HasNoHead lines → AreEnough (place_of lines) lines
 enough_alone lines none = enough_there lines none (cases_lt (length (spoken lines)) 65536)
+
+-- behind lines that are enough no piece is heard
+never_more : (rules : Rules) (here : List Line) (text : Text) (pieces : List Text) (heard : Earlier)
+    → AreEnough (place_of here) here → AreHeard rules here (text ∷ pieces) heard → ⊥
+never_more rules here text [] heard enough (before, more) =
+    more.1.lacks (subst (λ (b : Earlier). AreEnough (place_of here) (b.lines ++ here)) (sym more.0) enough)
+never_more rules here text (t ∷ pieces) heard enough (before, more) = never_more rules here t pieces before enough more.0
+
+none_heard : (rules : Rules) (here : List Line) (pieces : List Text) (heard : Earlier) → AreEnough (place_of here) here
+    → AreHeard rules here pieces heard → heard.lines ≡ []
+none_heard rules here [] heard enough are = ap (λ (b : Earlier). b.lines) are
+none_heard rules here (text ∷ pieces) heard enough are = absurd (never_more rules here text pieces heard enough are)
 
 -- ---- newlines
 
@@ -258,28 +270,32 @@ module _ (apart : AreApart) (lacks : LackNewlines) where
             (map (λ part. line.State (state.Part part)) inside.parts) (subst HasNoHead inside.begun none);
       })
 
-  never_lacking : ((xs ys : List Line) → HasNoHead (xs ++ ys) ↔ (HasNoHead xs × HasNoHead ys)) → (text : List ℕ)
-      (all : List Line) → Fits all → HasNoHead all → IsPrefix text (text_of all) → LacksLines text → ⊥
-  never_lacking both text all fits none begins it =
-      it.lacks (enough_alone it.lines (headless both text all it.lines it.bytes fits none begins it.are))
+  never_lacking : ((xs ys : List Line) → HasNoHead (xs ++ ys) ↔ (HasNoHead xs × HasNoHead ys)) → (rules : Rules)
+      (left : Option (List Text)) (text : List ℕ) (all : List Line) → Fits all → HasNoHead all → IsPrefix text (text_of all)
+      → LacksLines rules left text → ⊥
+  never_lacking both rules left text all fits none begins it =
+      let enough = enough_alone it.lines (headless both text all it.lines it.bytes fits none begins it.are) in
+      let before = it.before.before in
+      it.before.lacks (subst (λ l. AreEnough (place_of it.lines) (l ++ it.lines))
+      (sym (none_heard rules it.lines before.pieces _ enough before.are)) enough)
 
   pub never_refused : ((lines : List Line) (n : ℕ) → Fits lines → BreaksAt LineFits (text_of lines) n → ⊥)
-      → ((xs ys : List Line) → HasNoHead (xs ++ ys) ↔ (HasNoHead xs × HasNoHead ys)) → (rules : Rules) (text : List ℕ) (all : List Line) (fault : CommandFault) → Fits all → IsLegalFromNothing rules all
-      → IsPrefix text (text_of all) → FileSays rules text fault
+      → ((xs ys : List Line) → HasNoHead (xs ++ ys) ↔ (HasNoHead xs × HasNoHead ys)) → (rules : Rules) (left : Option (List Text)) (text : List ℕ) (all : List Line)
+      (fault : CommandFault) → Fits all → IsLegalFromNothing rules all → IsPrefix text (text_of all) → FileSays rules left text fault
       → (fault ≡ command.NoMemory) ⊎ (fault ≡ command.Read)
-  never_refused never both rules text all (command.BadLine n) fits legal begins says =
+  never_refused never both rules left text all (command.BadLine n) fits legal begins says =
       absurd (never_bad never text all n fits begins says)
-  never_refused never both rules text all (command.Differs n) fits legal begins says =
+  never_refused never both rules left text all (command.Differs n) fits legal begins says =
       absurd (never_differs both rules text all n fits legal begins says)
-  never_refused never both rules text all command.NoMemory fits legal begins says = inl refl
-  never_refused never both rules text all command.Read fits legal begins says = inr refl
-  never_refused never both rules text all command.NoReader fits legal begins says = absurd says
-  never_refused never both rules text all command.Listen fits legal begins says = absurd says
-  never_refused never both rules text all command.Write fits legal begins says = absurd says
-  never_refused never both rules text all command.Cut fits legal begins says = absurd says
-  never_refused never both rules text all (command.BadLength n) fits legal begins says = absurd says
-  never_refused never both rules text all command.Connect fits legal begins says = absurd says
-  never_refused never both rules text all command.BadReply fits legal begins says = absurd says
-  never_refused never both rules text all command.Trace fits legal begins says =
-      absurd (never_lacking both text all fits legal.1 begins says)
-  never_refused never both rules text all command.TraceFailed fits legal begins says = absurd says
+  never_refused never both rules left text all command.NoMemory fits legal begins says = inl refl
+  never_refused never both rules left text all command.Read fits legal begins says = inr refl
+  never_refused never both rules left text all command.NoReader fits legal begins says = absurd says
+  never_refused never both rules left text all command.Listen fits legal begins says = absurd says
+  never_refused never both rules left text all command.Write fits legal begins says = absurd says
+  never_refused never both rules left text all command.Cut fits legal begins says = absurd says
+  never_refused never both rules left text all (command.BadLength n) fits legal begins says = absurd says
+  never_refused never both rules left text all command.Connect fits legal begins says = absurd says
+  never_refused never both rules left text all command.BadReply fits legal begins says = absurd says
+  never_refused never both rules left text all command.Trace fits legal begins says =
+      absurd (never_lacking both rules left text all fits legal.1 begins says)
+  never_refused never both rules left text all command.TraceFailed fits legal begins says = absurd says

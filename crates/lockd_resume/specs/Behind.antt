@@ -1,7 +1,6 @@
 -- A server that goes on behind the lines of a trace's file.
 use Rattle.std.specs.Prelude.{ℕ, Bool, true, false, List, Option, Some, ⊤}
 use Rattle.fl_desk.specs.Legal.{IsLegal}
-use Rattle.fl_history.specs.Place.{place_of}
 use Rattle.fl_judge.specs.Present.{HasPresent}
 use Rattle.fl_judge.specs.Verdicts.{DiffersAt}
 use Rattle.fl_history.specs.declared.history.Line.{Line}
@@ -16,7 +15,7 @@ use Rattle.fl_waiting.specs.declared.rules.Rules.{Rules}
 use Rattle.lockd_faults.specs.declared.fault.CommandFault.{CommandFault}
 use Rattle.lockd_faults.specs.declared.fault.CommandFault.TheVariants as command
 use Rattle.lockd_resume.specs.Ending.{Ending, Ends, EndsUntraced, told_of}
-use Rattle.lockd_resume.specs.Heard.{AreEnough}
+use Rattle.lockd_resume.specs.Heard.{LacksBefore, Text}
 
 -- No legal history begins with the whole lines of a text, or they end inside a head, and the line of this number is the
 -- first that breaks the rules.
@@ -27,22 +26,22 @@ pub record DiffersIn (rules : Rules) (text : List ℕ) (n : ℕ) : Type 0 where
   pub differs : DiffersAt rules lines n
   pub none : HasPresent rules lines → ⊥
 
--- the whole lines of a text aren't enough to know messages that are sent again: they begin with a head, and lines of
--- the piece before are missing
-pub record LacksLines (text : List ℕ) : Type 0 where
+-- the whole lines of a text, and those of the pieces before it that were heard, aren't enough to know messages that are
+-- sent again
+pub record LacksLines (rules : Rules) (left : Option (List Text)) (text : List ℕ) : Type 0 where
   pub lines : List Line
   pub bytes : ℕ
   pub are : AreWholeLines text lines bytes
-  pub lacks : AreEnough (place_of lines) lines → ⊥
+  pub before : LacksBefore rules left lines
 
--- what a fault says of the text of a trace's file, from which no server goes on
-abbrev pub FileSays : Rules → List ℕ → CommandFault → Type 0
-FileSays rules text (command.BadLine n) = BreaksAt LineFits (whole_lines text) n
-FileSays rules text (command.Differs n) = DiffersIn rules text n
-FileSays rules text command.Trace = LacksLines text
-FileSays rules text command.NoMemory = ⊤
-FileSays rules text command.Read = ⊤
-FileSays rules text fault = ⊥
+-- What a fault says of the text of a trace's file, from which no server goes on. `left` is what stands before it.
+abbrev pub FileSays : Rules → Option (List Text) → List ℕ → CommandFault → Type 0
+FileSays rules left text (command.BadLine n) = BreaksAt LineFits (whole_lines text) n
+FileSays rules left text (command.Differs n) = DiffersIn rules text n
+FileSays rules left text command.Trace = LacksLines rules left text
+FileSays rules left text command.NoMemory = ⊤
+FileSays rules left text command.Read = ⊤
+FileSays rules left text fault = ⊥
 
 -- The session's fault is told. If the file lacks lines or is gone, it is told behind it that the trace failed.
 abbrev pub EndsBehind : Option SessionFault → Bool → Ending → Type 0

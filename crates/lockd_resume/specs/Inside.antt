@@ -1,6 +1,17 @@
--- Why a server doesn't go on behind a trace. No contract of a public function cites these
--- definitions.
-use Rattle.std.specs.Prelude.{◌≡◌, ℕ, List, ⊤}
+-- What a server reads before a piece, what its next piece tells, and why it doesn't go on. No contract of a public
+-- function cites these definitions.
+use Rattle.std.specs.Prelude.{◌≡◌, ◌+◌, ◌++◌, ℕ, List, IfSome, length, ⊤}
+use Rattle.fl_core.specs.State.{Snapshot, snapshot_of}
+use Rattle.fl_desk.specs.Heads.{head_lines, IsHead}
+use Rattle.fl_desk.specs.Legal.{IsLegal}
+use Rattle.fl_desk.specs.Replay.{state_after}
+use Rattle.fl_state.specs.Same.{HaveSame}
+use Rattle.fl_history.specs.Place.{place_of}
+use Rattle.fl_history.specs.Recent.{spoken}
+use Rattle.fl_history.specs.declared.place.Place.{Place}
+use Rattle.fl_order.specs.declared.state_part.Head.{Head}
+use Rattle.fl_order.specs.declared.state_part.StatePart.{StatePart}
+use Rattle.fl_audit.specs.First.{AreWholeLines, IsSoOfAll}
 use Rattle.fl_judge.specs.Present.{HasPresent}
 use Rattle.fl_judge.specs.Verdicts.{DiffersAt}
 use Rattle.fl_history.specs.declared.history.Line.{Line}
@@ -10,6 +21,8 @@ use Rattle.fl_waiting.specs.declared.rules.Rules.{Rules}
 use Rattle.lockd_faults.specs.declared.fault.CommandFault.{CommandFault}
 use Rattle.lockd_faults.specs.declared.fault.CommandFault.TheVariants as command
 use Rattle.lockd_resume.specs.Behind.{IsBefore}
+use Rattle.lockd_resume.specs.Heard.{AreItsRules, Text}
+use Rattle.lockd_resume.specs.declared.before.LastLines.{LastLines}
 use Rattle.lockd_resume.specs.declared.resume_file.Unready.{Unready}
 use Rattle.lockd_resume.specs.declared.resume_file.Unready.TheVariants as unready
 
@@ -30,3 +43,19 @@ pub record DiffersBy (rules : Rules) (lines : List Line) (fault : CommandFault) 
   pub is : fault ≡ command.Differs line
   pub differs : DiffersAt rules lines line
   pub none : HasPresent rules lines → ⊥
+
+-- these lines are those of a piece with this text, which is legal, and others behind them, which end at this place
+pub record StandsBefore (text : Text) (place : Place) (last more : LastLines) : Type 0 where
+  pub lines : List Line
+  pub bytes : ℕ
+  pub rules : IfSome text (λ t. AreItsRules last.rules t more.rules)
+  pub whole : IsSoOfAll text (λ t. AreWholeLines t lines bytes)
+  pub legal : IsLegal more.rules lines
+  pub meets : (place_of lines).lines + length (spoken last.recent) ≡ place.lines
+  pub past : more.past.items ≡ lines ++ last.past.items
+  pub recent : more.recent ≡ lines ++ last.recent
+
+-- a head of these parts tells by these rules what is there
+pub record TellsSame (rules : Rules) (present : Snapshot) (head : Head) (parts : List StatePart) : Type 0 where
+  pub whole : IsHead rules (head_lines head parts)
+  pub same : HaveSame present (snapshot_of (state_after rules (head_lines head parts)))

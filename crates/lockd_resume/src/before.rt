@@ -1,68 +1,97 @@
 //! The last lines before a piece in which a server goes on.
 
-ghost use Rattle.std.specs.Prelude.{◌≡◌, ◌⊎◌, ◌↔◌, ◌+◌, ◌++◌, ◌<◌, IfErr, IfOk, IfSome, IsTrue, length};
+ghost use Rattle.std.specs.Prelude.{◌≡◌, ◌⊎◌, ◌↔◌, ◌+◌, ◌++◌, ◌<◌, ℕ, List, Option, IfErr, IfOk, IfSome, IsTrue};
+ghost use Rattle.std.specs.Prelude.{length, option_map};
 ghost use Rattle.fl_desk.specs.Legal.{IsLegal};
 ghost use Rattle.fl_history.specs.Place.{place_of};
 ghost use Rattle.fl_history.specs.Recent.{spoken};
 ghost use Rattle.lockd_faults.specs.declared.fault.CommandFault.{CommandFault};
-ghost use Rattle.lockd_resume.specs.Heard.{AreEnough, IsHeardBefore, left_of};
+ghost use Rattle.lockd_resume.specs.Heard.{AreEnough, IsHeardBefore, IsNearest, LacksBefore, Text};
+ghost use Rattle.lockd_resume.specs.Inside.{StandsBefore};
 
-use fl_audit::{AuditFault, Details, Heard, hear_cut};
+use fl_audit::{AuditFault, Details, Heard, hear_cut, read_opening};
 use fl_core::Rules;
 use fl_history::{Line, Past, Place, Recent};
-use fl_judge::{Judge, Resumed, Verdict};
+use fl_judge::{Judge, Verdict};
 use fl_order::NoMemory;
+use fl_trace::LINE_ROOM;
 use lockd_faults::CommandFault;
+use lockd_streams::OlderPieces;
 use std::alloc::Global;
+use std::fs::File;
 use std::io::Read;
 
-/// The lines of a piece, and the last of them.
+/// The pieces that stand before one, which are opened from the last to the first, and only while they are wanted.
+pub trait PiecesBefore {
+    /// What reads a piece.
+    type Piece: Read + Drop;
+
+    ghost left: { Self → Option (List Text) };
+
+    ghost count: { Self → ℕ };
+
+    /// The last piece that wasn't opened yet. None, if it isn't there, or can't be opened.
+    fn next(&mut self) -> Option<Self::Piece>
+        ensures nearest { IsNearest (left self.old) (option_map Self.Piece.remaining result) (left self.new) }
+        ensures fewer { IfSome result (λ _. count self.new < count self.old) };
+}
+
+impl PiecesBefore for OlderPieces<'_> {
+    type Piece = File;
+
+    ghost use Rattle.std.specs.Prelude.{None};
+
+    ghost left = { λ _. None };
+
+    ghost count = { λ it. it.number };
+
+    fn next(&mut self) -> Option<File> {
+        self.open_next()
+    }
+}
+
+/// The lines of pieces, the last of them, and the rules of the first piece.
 #[derive(Drop)]
 pub(crate) struct LastLines {
+    pub rules: Rules,
     pub past: Past<Line>,
     pub recent: Recent,
 }
 
-/// What stands before the lines of a piece, which end at this place: nothing, if these are enough to know messages that
-/// are sent again, or else the lines of the piece before. The last lines are those with these behind them. The fault is
-/// `Trace`, if the piece before is missing, isn't legal under its rules, doesn't end where these lines begin, or isn't
-/// enough.
-pub(crate) fn with_before<B: Read + Drop>(
+/// What stands before the lines of a piece of these rules, which end at this place: the lines of as many pieces as are
+/// wanted to know messages that are sent again; none, if those of this piece are enough. The last lines are those with
+/// these behind them. The fault is `Trace`, if they aren't enough, and the next piece is missing, isn't legal under its
+/// rules, or ends elsewhere than those behind it begin.
+pub(crate) fn with_before<P: PiecesBefore>(
     alloc: Global,
-    under: Rules,
-    before: Option<B>,
+    rules: Rules,
+    before: &mut P,
     here: Recent,
     place: Place,
 ) -> Result<LastLines, CommandFault>
     requires place { place ≡ place_of here }
     ensures recent { IfOk result (λ all. all.recent ≡ all.past.items ++ here) }
-    ensures heard { IfOk result (λ all. IsHeardBefore under (left_of B.remaining before) here all.past.items) }
+    ensures heard { IfOk result (λ all. IsHeardBefore rules (P.left before.old) here all.past.items) }
     ensures enough { IfOk result (λ all. AreEnough place all.recent) }
     ensures fault { IfErr result (λ fault. (fault ≡ CommandFault.NoMemory)
-        ⊎ ((fault ≡ CommandFault.Trace) × ¬ AreEnough place here)) }
+        ⊎ ((fault ≡ CommandFault.Trace) × LacksBefore rules (P.left before.old) here)) }
 {
-    if are_enough(&here, place) {
-        return Ok(LastLines {
-            past: Past::new(),
-            recent: here,
-        });
-    }
-    let Some(mut before) = before else {
-        return Err(CommandFault::Trace);
+    let mut last = LastLines {
+        rules,
+        past: Past::new(),
+        recent: here,
     };
-    match lines_before(alloc, under, &mut before, &here, place) {
-        Ok(Some(last)) => {
-            let LastLines { past, mut recent } = last;
-            recent.extend(&here);
-            if are_enough(&recent, place) {
-                Ok(LastLines { past, recent })
-            } else {
-                Err(CommandFault::Trace)
-            }
+    'pieces: while !are_enough(&last.recent, place) {
+        let Some(piece) = before.next() else {
+            return Err(CommandFault::Trace);
+        };
+        match with_piece(alloc, piece, last, place) {
+            Ok(Some(more)) => last = more,
+            Ok(None) => return Err(CommandFault::Trace),
+            Err(NoMemory) => return Err(CommandFault::NoMemory),
         }
-        Ok(None) => Err(CommandFault::Trace),
-        Err(NoMemory) => Err(CommandFault::NoMemory),
     }
+    Ok(last)
 }
 
 // Whether these lines up to this place are enough.
@@ -74,38 +103,50 @@ fn are_enough(recent: &Recent, place: Place) -> bool
 }
 
 // So many orders and replies are known of those of messages that are sent again.
-pub(crate) const MOST_KEPT: u64 = 65_536;
+const MOST_KEPT: u64 = 65_536;
 
-// The lines of the piece before these, which end at this place; none, if that piece can't be read, isn't legal, or ends
-// elsewhere than these begin.
-fn lines_before<B: Read>(
+// The lines of one more piece, and these behind them, which end at this place; none, if the piece can't be read, isn't
+// legal by the rules that its head names, or else by those of the piece behind it, or ends elsewhere than these begin.
+fn with_piece<B: Read + Drop>(
     alloc: Global,
-    under: Rules,
-    before: &mut B,
-    here: &Recent,
+    piece: B,
+    last: LastLines,
     place: Place,
 ) -> Result<Option<LastLines>, NoMemory>
-    requires few { length (spoken here.now) < 65536 }
-    requires place { place ≡ place_of here.now }
-    ensures recent { IfOk result (λ it. IfSome it (λ last. last.recent ≡ last.past.items)) }
-    ensures heard { IfOk result (λ it. IfSome it (λ last.
-        IsHeardBefore under (B.remaining before.old) here.now last.past.items)) }
+    requires { length (spoken last.recent) < 65536 }
+    ensures { IfOk result (λ it. IfSome it (λ more. StandsBefore (B.remaining piece) place last more)) }
 {
+    let mut piece = piece;
+    let mut room = [0; LINE_ROOM];
+    let Ok(opening) = read_opening(&mut piece, &mut room) else {
+        return Ok(None);
+    };
+    let rules = opening.rules.unwrap_or(last.rules);
+    let mut text = room[..opening.bytes].chain(piece);
     let mut details = Details::new();
-    let heard = match hear_cut(alloc, under, before, &mut details) {
+    let heard = match hear_cut(alloc, rules, &mut text, &mut details) {
         Ok(heard) => heard,
         Err(AuditFault::NoMemory) => return Err(NoMemory),
         Err(AuditFault::BadLine(_) | AuditFault::Read) => return Ok(None),
     };
-    let Heard { judge, recent, .. } = heard;
-    if !ends_before(&judge, here, place) {
+    let Heard {
+        judge,
+        mut recent,
+        ..
+    } = heard;
+    if !ends_before(&judge, &last.recent, place) {
         return Ok(None);
     }
     let Some(resumed) = judge.into_resumed() else {
         return Ok(None);
     };
-    let Resumed { past, .. } = resumed;
-    Ok(Some(LastLines { past, recent }))
+    recent.extend(&last.recent);
+    let past = resumed.past.followed_by(&last.past);
+    Ok(Some(LastLines {
+        rules,
+        past,
+        recent,
+    }))
 }
 
 // Whether a judge's lines are legal, and end where these begin, which end at this place.

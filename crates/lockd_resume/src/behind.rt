@@ -44,14 +44,14 @@ pub(crate) fn resume<R: Read, W: Write, T: Write + Drop, P: Pieces<T> + Drop>(
     point: ResumePoint,
     file: T,
     pieces: P,
-    spare: Option<StreamRoom>,
+    spare: StreamRoom,
 ) -> ResumedRun<T>
     requires there { IsAs (T.contents file) (text_of point.resumed.past.items) }
     requires recent { point.recent ≡ point.heard.items ++ point.resumed.past.items }
     requires place { point.place ≡ place_of point.resumed.past.items }
     requires kept { IsKept (lines_at point) point.resumed.present }
     requires rules { point.resumed.present.rules ≡ point.session.rules }
-    ensures resumed { IsResumed P.single point.session.rules point.heard.items (lines_at point) T.contents (record {
+    ensures resumed { IsResumed point.session.rules point.heard.items (lines_at point) T.contents (record {
       left = R.remaining r.old;
       left_now = R.remaining r.new;
       held = W.contents w.old;

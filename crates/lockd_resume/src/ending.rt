@@ -7,8 +7,7 @@ ghost use Rattle.lockd_resume.specs.Behind.{EndsBehind};
 ghost use Rattle.lockd_resume.specs.Ending.{Ends, EndsUntraced, told_of};
 
 use fl_session::Fault;
-use lockd_faults::{CommandFault, Status, end, print_fault};
-use lockd_streams::{Observer, Untraced};
+use lockd_faults::{CommandFault, Observer, Status, Untraced, end, print_fault};
 use std::io;
 use std::io::Write;
 

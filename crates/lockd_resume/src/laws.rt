@@ -1,7 +1,7 @@
 //! Laws of what a killed server leaves in its trace's file, and of what the next one reads of it. Each is the contract
 //! of an empty function.
 
-ghost use Rattle.std.specs.Prelude.{◌≡◌, ◌⊎◌, ◌++◌, ℕ, All, Contains, List};
+ghost use Rattle.std.specs.Prelude.{◌≡◌, ◌⊎◌, ◌++◌, ℕ, All, Contains, List, Option};
 ghost use mathlib.Core.List.{IsPrefix};
 ghost use Rattle.fl_desk.specs.Legal.{IsLegal, IsLegalFromNothing};
 ghost use Rattle.fl_history.specs.declared.history.Line.{Line};
@@ -17,6 +17,7 @@ ghost use Rattle.fl_waiting.specs.declared.rules.Rules.{Rules};
 ghost use Rattle.lockd_faults.specs.declared.fault.CommandFault.{CommandFault};
 ghost use Rattle.lockd_faults.specs.declared.fault.CommandFault.TheVariants as command;
 ghost use Rattle.lockd_resume.specs.Behind.{FileSays};
+ghost use Rattle.lockd_resume.specs.Heard.{Text};
 ghost use Rattle.lockd_resume.specs.Said.{CanBeSaid};
 
 use fl_desk::laws::no_head_comes_later;
@@ -64,8 +65,8 @@ pub fn what_is_read_of_a_cut_text_begins_its_lines()
 /// The text of a legal history that began with nothing was cut off. No line that is read of what is left is bad, or
 /// breaks the rules: `resumed_from` refuses it only for memory, or since it can't be read.
 pub fn a_cut_text_of_a_legal_history_is_never_refused()
-    ensures { (rules : Rules) (text : List ℕ) (all : List Line) (fault : CommandFault) → Fits all
-        → IsLegalFromNothing rules all → IsPrefix text (text_of all) → FileSays rules text fault
+    ensures { (rules : Rules) (left : Option (List Text)) (text : List ℕ) (all : List Line) (fault : CommandFault)
+        → Fits all → IsLegalFromNothing rules all → IsPrefix text (text_of all) → FileSays rules left text fault
         → (fault ≡ command.NoMemory) ⊎ (fault ≡ command.Read) }
 {
     no_head_comes_later();

@@ -19,9 +19,8 @@
 //! - one that cuts nothing off or too much, or a file at `no memory`, or one whose lines differ or that may be no
 //!   trace; that doesn't lock its file, or only once it was read, or doesn't ask at the end whether it is there;
 //! - a `PieceLines` that is due too early, or never; a `resume_on` that gives its pieces another rotation;
-//! - a `head_rules` that names others, or none; other rules than the piece's own for the piece before;
-//! - a change of rules that tells something else by the new ones than what is there, though a head that fits them, or loses
-//!   the replies that the last piece lacks; one that is refused, or isn't;
+//! - a `head_rules` that names others, or none; a piece that is found illegal, or not to fit, though it is and does;
+//! - a change of rules that loses the replies that the last piece lacks; one that is refused, or isn't;
 //! - a server that tells its observer something else than what it does, or nothing, or another reason.
 //!
 //! These tests refuse most of them:
@@ -44,6 +43,7 @@ mod point;
 mod resume_file;
 mod resuming;
 
+pub use before::PiecesBefore;
 pub use behind::ResumedRun;
 pub use ending::{end_session, end_unheard, end_unopened, end_untraced};
 pub use hang_up::{HangUp, hang_up_if};

@@ -1,8 +1,7 @@
 //! What a resumed server tells of itself, beside what each server does.
 
 use fl_audit::Details;
-use lockd_faults::Status;
-use lockd_streams::Observer;
+use lockd_faults::{Observer, Status};
 use std::alloc::Global;
 
 /// Is told what became of the lines of the trace's file, too.

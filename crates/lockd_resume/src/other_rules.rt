@@ -1,25 +1,26 @@
 //! A trace that goes on by other rules than before: its next piece tells what is there by these.
 
 ghost use Rattle.std.specs.Prelude.{◌≡◌, ◌++◌, IfErr, IfOk, None, Ok};
-ghost use Rattle.fl_desk.specs.Heads.{head_lines, IsHead};
 ghost use Rattle.fl_desk.specs.Kept.{IsKept};
 ghost use Rattle.fl_history.specs.Place.{place_of};
-ghost use Rattle.lockd_resume.specs.Inside.{ComesBefore};
+ghost use Rattle.fl_stream.specs.Streams.{IsAs};
+ghost use Rattle.fl_trace.specs.Text.{text_of};
+ghost use Rattle.lockd_resume.specs.Inside.{ComesBefore, TellsSame};
 ghost use Rattle.lockd_resume.specs.Resumed.{lines_at};
 
-use crate::before::MOST_KEPT;
 use crate::point::ResumePoint;
-use crate::resume_file::{NextPieces, Ready, Resuming, Unready, made_ready};
+use crate::resume_file::{Ready, Resuming, Unready, made_ready};
 use fl_audit::{Details, read_opening};
-use fl_core::Rules;
+use fl_core::{Core, Rules};
 use fl_desk::{ToldHead, head_of};
 use fl_history::{Journal, Line, Past};
 use fl_judge::{Judge, Resumed};
 use fl_order::{Head, NoMemory, StateLine, StatePart};
-use fl_stream::{AheadLines, Pieces};
+use fl_state::have_same;
+use fl_stream::{AheadLines, Pieces, StreamRoom};
 use fl_trace::LINE_ROOM;
-use lockd_faults::CommandFault;
-use lockd_streams::{FilePieces, Misfit, Rotation, Untraced, file_to_go_on_in};
+use lockd_faults::{CommandFault, Misfit, Untraced};
+use lockd_streams::{FilePieces, PieceWriter, Rotation, TracePath, file_to_go_on_in};
 use std::alloc::Global;
 use std::fs::File;
 use std::io::{Seek, SeekFrom, Write};
@@ -28,7 +29,7 @@ use std::io::{Seek, SeekFrom, Write};
 const MOST_PARTS: usize = 1 << 40;
 
 /// The rules that the head of a trace's file names, if it has one that can be read. The file is read from its beginning
-/// then.
+/// then. Of a file's bytes contracts see nothing; `read_opening` says which rules a text names.
 pub fn head_rules(file: &mut File) -> Option<Rules> {
     match file.metadata() {
         Ok(found) if found.is_file() => {}
@@ -43,11 +44,11 @@ pub fn head_rules(file: &mut File) -> Option<Rules> {
 /// What a server goes on from by these rules, and in which file: this one, or, if its head names others, that of the next
 /// piece, which tells what is there by these. What is there has to fit them.
 pub(crate) fn ready_under<'a, N: Write + Copy + Drop>(
-    rt: &'a HostRuntime,
+    at: TracePath<'a>,
     alloc: Global,
     rules: Rules,
     mut file: File,
-    how: Resuming<'a>,
+    how: Resuming<'_>,
     notices: N,
     details: &mut Details,
 ) -> Result<(File, Ready<FilePieces<'a, N>>), Unready>
@@ -60,25 +61,26 @@ pub(crate) fn ready_under<'a, N: Write + Copy + Drop>(
 {
     let named = head_rules(&mut file).unwrap_or(rules);
     if named != rules {
-        begin_under(rt, alloc, named, rules, file, how, notices, details)?;
-        file = match file_to_go_on_in(rt, how.name) {
+        begin_under(at, alloc, named, rules, file, how, notices, details)?;
+        file = match file_to_go_on_in(at.rt, at.name) {
             Ok(file) => file,
             Err(why) => return Err(Unready::Untraced(Untraced::Unopened(why))),
         };
     }
-    let ready = made_ready(rt, alloc, rules, &mut file, how, notices, details)?;
+    let ready = made_ready(at, alloc, rules, &mut file, how, notices, details)?;
     Ok((file, ready))
 }
 
-// Begins the next piece by these rules, behind a file whose head names others. No other piece goes, since this one may be
-// short. It has to be long enough to be the piece before one with no orders: else no next server could go on.
-fn begin_under<'a, N: Write + Copy + Drop>(
-    rt: &'a HostRuntime,
+// Begins the next piece by these rules, behind a file whose head names others. All pieces stay, since the next server
+// wants those before if this one is short. Before a later turn takes one away, a newer one has 65,536 orders and
+// replies: so it isn't wanted any more.
+fn begin_under<N: Write + Copy + Drop>(
+    at: TracePath<'_>,
     alloc: Global,
     named: Rules,
     rules: Rules,
     mut file: File,
-    how: Resuming<'a>,
+    how: Resuming<'_>,
     notices: N,
     details: &mut Details,
 ) -> Result<(), Unready>
@@ -87,22 +89,26 @@ fn begin_under<'a, N: Write + Copy + Drop>(
     let (bytes, keep) = (u64::MAX, None);
     let rotation = Some(Rotation { bytes, keep });
     let how = Resuming { rotation, ..how };
-    let ready = made_ready(rt, alloc, named, &mut file, how, notices, details)?;
-    let Ready { point, pieces } = ready;
-    if point.since < MOST_KEPT && point.since != point.place.lines {
-        return Err(Unready::Untraced(Untraced::Short));
-    }
+    let ready = made_ready(at, alloc, named, &mut file, how, notices, details)?;
+    let Ready {
+        point,
+        pieces,
+        spare,
+    } = ready;
     let told = told_under(alloc, rules, &point)?;
-    match pieces {
-        Some(pieces) if complete(point, file) => turn_to(pieces, &told),
-        _ => Err(Unready::Untraced(Untraced::Unturned)),
+    let here = PieceWriter::behind(at, file, point.bytes, how.when, notices);
+    match complete(point, here) {
+        Some(here) => turn_to(pieces, spare, &here, &told),
+        None => Err(Unready::Untraced(Untraced::Unturned)),
     }
 }
 
 // The head that tells by these rules what is there at a point, if it fits them.
 fn told_under(alloc: Global, rules: Rules, point: &ResumePoint) -> Result<ToldHead, Unready>
-    requires { IsKept (lines_at point.now) point.now.resumed.present }
-    ensures told { IfOk result (λ it. IsHead rules (head_lines it.head it.parts.items)) }
+    requires kept { IsKept (lines_at point.now) point.now.resumed.present }
+    requires place { point.now.place ≡ place_of point.now.resumed.past.items }
+    ensures told { IfOk result (λ it. TellsSame rules point.now.resumed.present it.head it.parts.items) }
+    ensures lines { IfOk result (λ it. it.head.lines ≡ (place_of (lines_at point.now)).lines) }
     ensures before { IfErr result ComesBefore }
 {
     let missing = point.resumed.missing.as_slice().len() as u64;
@@ -122,21 +128,23 @@ fn told_under(alloc: Global, rules: Rules, point: &ResumePoint) -> Result<ToldHe
     if rules.fair && !point.session.rules.fair && has_wait(parts.as_slice()) {
         return Err(Unready::Untraced(Untraced::Misfit(Misfit::Parked)));
     }
-    match first_misfit(alloc, rules, &head, parts.as_slice()) {
+    let present = &point.resumed.present;
+    match first_misfit(alloc, rules, present, &head, parts.as_slice()) {
         Ok(None) => Ok(ToldHead { head, parts }),
         Ok(Some(misfit)) => Err(Unready::Untraced(Untraced::Misfit(misfit))),
         Err(NoMemory) => Err(Unready::Fault(CommandFault::NoMemory)),
     }
 }
 
-// The first part of a head that doesn't fit these rules; none, if all do, and it can be told under them.
+// The first part of a head that doesn't fit these rules; none, if all do, and it tells by them what is there.
 fn first_misfit(
     alloc: Global,
     rules: Rules,
+    present: &Core,
     head: &Head,
     parts: &[StatePart],
 ) -> Result<Option<Misfit>, NoMemory>
-    ensures { result ≡ Ok None → IsHead rules (head_lines head.now parts.now) }
+    ensures { result ≡ Ok None → TellsSame rules present.now head.now parts.now }
 {
     if parts.len() >= MOST_PARTS {
         return Err(NoMemory);
@@ -151,8 +159,8 @@ fn first_misfit(
     }
     judge.hear(&Line::State(StateLine::Go));
     match judge.told() {
-        Some(_) => Ok(None),
-        None => Ok(Some(Misfit::Parked)),
+        Some(told) if have_same(present, told) => Ok(None),
+        _ => Ok(Some(Misfit::Parked)),
     }
 }
 
@@ -173,8 +181,10 @@ fn misfit_of(part: &StatePart) -> Misfit {
     }
 }
 
-// Writes the replies that the last order of a file lacks, and says whether it could.
-fn complete(point: ResumePoint, file: File) -> bool {
+// Writes the replies that the last order of a file lacks. If it could, the file comes back.
+fn complete<T: Write + Drop>(point: ResumePoint, file: T) -> Option<T>
+    requires { IsAs (T.contents file) (text_of point.resumed.past.items) }
+{
     let ResumePoint {
         resumed,
         stream,
@@ -184,31 +194,34 @@ fn complete(point: ResumePoint, file: File) -> bool {
     let mut here = AheadLines::behind(stream, file, &past);
     for told in missing.as_slice() {
         if here.reserve(1).is_err() {
-            return false;
+            return None;
         }
         here.push_told(told);
     }
-    here.finish()
+    let written = here.finish();
+    let (file, _) = here.into_parts();
+    written.then_some(file)
 }
 
-// Begins the next piece by this head.
-fn turn_to<N: Write + Copy + Drop>(
-    pieces: NextPieces<FilePieces<'_, N>>,
+// Begins the next piece by this head, behind the one that goes to this writer.
+fn turn_to<T: Write + Drop, P: Pieces<T> + Drop>(
+    mut pieces: P,
+    spare: StreamRoom,
+    here: &T,
     told: &ToldHead,
 ) -> Result<(), Unready>
     ensures before { IfErr result ComesBefore }
 {
-    let NextPieces { mut files, spare } = pieces;
-    let Some(writer) = files.begin() else {
+    let Some(writer) = pieces.begin(here, false) else {
         return Err(Unready::Untraced(Untraced::Unturned));
     };
     let mut draft = AheadLines::behind(spare, writer, &Past::new());
     let whole = add_head(&mut draft, told) && draft.finish();
     let (mut writer, _) = draft.into_parts();
-    if whole && files.end(&mut writer) {
+    if whole && pieces.end(&mut writer) {
         return Ok(());
     }
-    files.give_up();
+    pieces.give_up();
     Err(Unready::Untraced(Untraced::Unturned))
 }
 

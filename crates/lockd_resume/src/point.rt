@@ -10,7 +10,7 @@ use fl_stream::StreamRoom;
 pub struct ResumePoint {
     /// What is there after the lines and the replies that they lack.
     pub resumed: Resumed,
-    /// The lines of the piece before, if they were read: of these and the others the last are known.
+    /// The lines of pieces before, as far as they were read: of these and the others the last are known.
     pub heard: Past<Line>,
     /// The last of the lines, and of those that were heard before.
     pub recent: Recent,

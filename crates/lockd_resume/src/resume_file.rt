@@ -9,16 +9,15 @@ ghost use Rattle.fl_judge.specs.Present.{told_lines, HasPresent};
 ghost use Rattle.fl_transport.specs.declared.fault.Fault.{Fault as SessionFault};
 ghost use Rattle.lockd_resume.specs.Behind.{EndsBehind, FileSays, ServesBehind, ServesNobodyBehind};
 ghost use Rattle.lockd_resume.specs.Ending.{Ending, Ends};
-ghost use Rattle.lockd_resume.specs.Heard.{AreEnough, IsHeardBefore, left_of};
+ghost use Rattle.lockd_resume.specs.Heard.{AreEnough, IsHeardBefore};
 ghost use Rattle.lockd_resume.specs.Inside.{ComesBefore, DiffersBy, told_of_reading};
 ghost use Rattle.fl_stream.specs.Streams.{IsAs};
 ghost use Rattle.fl_trace.specs.Text.{text_of};
 ghost use Rattle.lockd_resume.specs.Resumed.{IsOverBehind, lines_at};
 
-use crate::before::{LastLines, with_before};
+use crate::before::{LastLines, PiecesBefore, with_before};
 use crate::behind::ResumedRun;
 use crate::ending::{end_unheard, end_unopened};
-use crate::hang_up::HangUp;
 use crate::observer::ResumeObserver;
 use crate::other_rules::{head_rules, ready_under};
 use crate::point::ResumePoint;
@@ -29,11 +28,11 @@ use fl_judge::laws::a_legal_history_has_a_present;
 use fl_judge::{Judge, Resumed, Verdict};
 use fl_order::NoMemory;
 use fl_session::SessionRoom;
-use fl_stream::{OnePiece, Pieces, StreamRoom};
-use lockd_faults::{CommandFault, Noting, Status, end};
+use fl_stream::StreamRoom;
+use lockd_faults::{CommandFault, Noting, Status, Untraced, end, end_without_file};
 use lockd_streams::{
-    Announcing, FilePieces, OldSocket, Patient, Retrying, Rotation, Spinning, Untraced,
-    WhenUnwritten, connection, end_without_file, is_at, last_piece, open_piece,
+    FilePieces, OldSocket, OlderPieces, Patient, PieceWriter, Rotation, Spinning, TracePath,
+    WhenUnwritten, connection, is_at, is_link, last_piece, next_name,
 };
 use std::alloc::Global;
 use std::fs::{File, TryLockError};
@@ -49,6 +48,8 @@ const ASK: &[u8] = b"ask ";
 pub struct Resuming<'a> {
     /// The path of the file.
     pub name: &'a str,
+    /// Whether it was made for this server. Then a socket's file at the server's path stays.
+    pub is_new: bool,
     /// What happens while a write fails.
     pub when: WhenUnwritten,
     /// When the next piece of the trace begins; never, if that isn't said.
@@ -56,11 +57,12 @@ pub struct Resuming<'a> {
 }
 
 /// `lockd serve --resume`: goes on behind the lines of a trace's file, under these rules, with one worker. It listens
-/// as `lockd serve` does, but a socket's file at the path is replaced if nobody listens at it. The file is read from its
+/// as `lockd serve` does. Unless the file is new, a socket where nobody listens is replaced. The file is read from its
 /// beginning, and gets what is written behind what it has. If another server has it, it isn't there any more, is no regular
 /// file, or can't be locked or cut off, the fault is `Trace`. So it is if it begins with a head, has fewer than 65,536
-/// orders and replies, and the piece before it (`last_piece`) is missing, isn't legal, ends elsewhere, or has too few. If its head
-/// names other rules, the next piece begins at once by these, unless what is there doesn't fit them (`ready_under`).
+/// orders and replies, and the pieces before it (`OlderPieces`) have too few, or one that is wanted is missing, isn't
+/// legal, or ends elsewhere. If its head names other rules, the next piece begins at once by these, unless what is there
+/// doesn't fit them (`ready_under`).
 ///
 /// What follows the file's last newline is cut off, and the replies that its last order lacks are written to it. Then
 /// the lines of each order are written before any of its replies leaves. While a write fails, `when` says what happens,
@@ -93,28 +95,38 @@ pub fn resume_on<F: Write, N: Write + Copy + Drop, O: ResumeObserver>(
       told_now = F.contents faults.new;
     }) }
 {
-    let name = how.name;
     let mut details = Details::new();
-    let (file, ready) = match ready_under(rt, alloc, rules, file, how, notices, &mut details) {
+    let Ok(next) = next_name(alloc, how.name) else {
+        return end_unresumed(alloc, faults, observer, CommandFault::NoMemory, &details);
+    };
+    let (name, next) = (how.name, next.as_str());
+    let at = TracePath { rt, name, next };
+    let (file, ready) = match ready_under(at, alloc, rules, file, how, notices, &mut details) {
         Ok(ready) => ready,
         Err(Unready::Untraced(why)) => return end_unopened(faults, observer, why),
         Err(Unready::Fault(fault)) => {
             return end_unresumed(alloc, faults, observer, fault, &details);
         }
     };
-    let Ready { point, pieces } = ready;
-    observer.resumed();
-    let stream = match connection(rt, alloc, path, OldSocket::Replace, observer) {
+    let Ready {
+        point,
+        pieces,
+        spare,
+    } = ready;
+    let old = old_socket(how, observer);
+    let stream = match connection(rt, alloc, path, old, observer) {
         Ok(stream) => stream,
         Err(why) => return end_unheard(faults, observer, why),
     };
-    let mut r = Spinning::new(&stream, &stream);
+    let mut r = Spinning::ticking(&stream, &stream);
     let mut w = Noting::new(Patient::new(&stream, &stream));
-    let file = Retrying::new(Announcing::new(file, name, notices), rt, how.when);
+    let file = PieceWriter::behind(at, file, point.bytes, how.when, notices);
     let socket = Some(&stream);
-    let (status, run) = resume_in(&mut r, &mut w, point, file, pieces, socket, faults);
-    let there = is_at(rt, Path::new(name), run.file.writer().file());
-    let status = end_at(faults, status, run.whole, there);
+    let (status, run) = resume_stream(&mut r, &mut w, point, file, pieces, spare, socket, faults);
+    let ResumedRun { file, whole, .. } = run;
+    let mut file = file;
+    let there = file.is_kept();
+    let status = end_at(faults, status, whole, there);
     observer.ended(r.client(), w.failed());
     if !there {
         observer.lost();
@@ -122,11 +134,21 @@ pub fn resume_on<F: Write, N: Write + Copy + Drop, O: ResumeObserver>(
     status
 }
 
-// What a server goes on from, and where the next pieces go, if there are to be any.
+// What becomes of an old socket. The observer is told behind which file the server goes on, unless that is new.
+fn old_socket<O: ResumeObserver>(how: Resuming<'_>, observer: &mut O) -> OldSocket {
+    if how.is_new {
+        return OldSocket::Keep;
+    }
+    observer.resumed();
+    OldSocket::Replace
+}
+
+// What a server goes on from, where the next pieces go, and the room for the text of a head.
 #[derive(Drop)]
 pub(crate) struct Ready<P> {
     pub point: ResumePoint,
-    pub pieces: Option<NextPieces<P>>,
+    pub pieces: P,
+    pub spare: StreamRoom,
 }
 
 // Why a server doesn't go on in a trace's file.
@@ -136,20 +158,13 @@ pub(crate) enum Unready {
     Untraced(Untraced),
 }
 
-// Where the next pieces of a trace go, and the room for the text of a head.
-#[derive(Drop)]
-pub(crate) struct NextPieces<P> {
-    pub files: P,
-    pub spare: StreamRoom,
-}
-
 // Locks the file, reads it, and cuts off what follows its last newline. All memory that a server needs is there then.
 pub(crate) fn made_ready<'a, N: Write + Copy + Drop>(
-    rt: &'a HostRuntime,
+    at: TracePath<'a>,
     alloc: Global,
     rules: Rules,
     file: &mut File,
-    how: Resuming<'a>,
+    how: Resuming<'_>,
     notices: N,
     details: &mut Details,
 ) -> Result<Ready<FilePieces<'a, N>>, Unready>
@@ -160,75 +175,58 @@ pub(crate) fn made_ready<'a, N: Write + Copy + Drop>(
     ensures rules { IfOk result (λ ready. ready.point.session.rules ≡ rules) }
     ensures before { IfErr result ComesBefore }
 {
-    if let Some(why) = untakable(rt, file, how) {
+    if let Some(why) = untakable(at.rt, file, how) {
         return Err(Unready::Untraced(why));
     }
-    let Before {
-        last,
-        is_piece,
-        piece,
-        under,
-    } = piece_before(rt, file, how, rules)?;
-    let pieces = next_pieces(rt, alloc, file, how, last, notices)?;
-    let point = match resumed_from(alloc, rules, under, piece, file, details) {
+    let listed = last_piece(at.rt, at.name, file);
+    let greatest = match &listed {
+        Ok(number) => *number,
+        Err(_) => 0,
+    };
+    let last = last_before(file, how, listed)?;
+    let Ok((pieces, spare)) = next_pieces(at, alloc, how, greatest, notices) else {
+        return Err(Unready::Fault(CommandFault::NoMemory));
+    };
+    let Ok(mut before) = OlderPieces::new(at.rt, at.name, last) else {
+        return Err(Unready::Fault(CommandFault::NoMemory));
+    };
+    let point = match resumed_from(alloc, rules, &mut before, file, details) {
         Ok(point) => point,
-        Err(CommandFault::Trace) => return Err(Unready::Untraced(Untraced::Headed(last))),
+        Err(CommandFault::Trace) => {
+            let number = last.min(before.number.saturating_add(1));
+            return Err(Unready::Untraced(Untraced::Headed(number)));
+        }
         Err(fault) => return Err(Unready::Fault(fault)),
     };
     let rest = details.bad.text();
     if point.bytes == 0 && !may_begin_a_trace(rest) {
         return Err(Unready::Fault(CommandFault::BadLine(1)));
     }
-    if point.bytes == 0 && is_piece {
+    if point.bytes == 0 && last > 0 {
         return Err(Unready::Untraced(Untraced::Emptied(last)));
     }
     match cut_off(file, point.bytes, rest) {
-        Ok(()) => Ok(Ready { point, pieces }),
+        Ok(()) => Ok(Ready {
+            point,
+            pieces,
+            spare,
+        }),
         Err(why) => Err(Unready::Untraced(Untraced::Uncut(why))),
     }
 }
 
-// The greatest number of a piece before a file, that piece, and the rules that its head names.
-#[derive(Drop)]
-struct Before {
-    last: u64,
-    is_piece: bool,
-    piece: Option<File>,
-    under: Rules,
-}
-
-// What stands before this file, whose rules are these: those of a piece that names none, too. Nobody asks for it if the
-// file has no head, and no pieces come behind it.
-fn piece_before(
-    rt: &HostRuntime,
-    file: &mut File,
-    how: Resuming<'_>,
-    rules: Rules,
-) -> Result<Before, Unready>
+// The greatest number of a piece before this file, which was listed. Nobody asks for it if the file has no head, and no
+// pieces come behind it.
+fn last_before(file: &mut File, how: Resuming<'_>, listed: io::Result<u64>) -> Result<u64, Unready>
     ensures before { IfErr result ComesBefore }
 {
-    let is_wanted = how.rotation.is_some() || head_rules(file).is_some();
-    let last = match is_wanted {
-        false => 0,
-        true => match last_piece(rt, how.name, file) {
-            Ok(last) => last,
-            Err(why) => return Err(unlisted(why)),
-        },
-    };
-    let mut piece = match open_piece(rt, how.name, last) {
-        Ok(piece) => piece,
-        Err(_) => return Err(Unready::Fault(CommandFault::NoMemory)),
-    };
-    let named = match &mut piece {
-        Some(piece) => head_rules(piece),
-        None => None,
-    };
-    Ok(Before {
-        last,
-        is_piece: piece.is_some(),
-        piece,
-        under: named.unwrap_or(rules),
-    })
+    if how.rotation.is_none() && head_rules(file).is_none() {
+        return Ok(0);
+    }
+    match listed {
+        Ok(last) => Ok(last),
+        Err(why) => Err(unlisted(why)),
+    }
 }
 
 // Why there is nothing to go on from if the folder, or the file, can't be read for this reason.
@@ -241,63 +239,19 @@ fn unlisted(why: io::Error) -> Unready
     }
 }
 
-// Where the pieces go that come behind this file, if any do, and this is the greatest number of a piece before it.
+// Where the pieces go that come behind a file, before which this is the greatest number of a piece, and the room for the
+// text of a head. If none are asked for, one comes only behind a file that was cut.
 fn next_pieces<'a, N: Write + Copy + Drop>(
-    rt: &'a HostRuntime,
+    at: TracePath<'a>,
     alloc: Global,
-    file: &File,
-    how: Resuming<'a>,
+    how: Resuming<'_>,
     last: u64,
     notices: N,
-) -> Result<Option<NextPieces<FilePieces<'a, N>>>, Unready>
-    ensures before { IfErr result ComesBefore }
-{
-    let Some(rotation) = how.rotation else {
-        return Ok(None);
-    };
-    let Ok(spare) = StreamRoom::new(alloc) else {
-        return Err(Unready::Fault(CommandFault::NoMemory));
-    };
-    match FilePieces::new(rt, how.name, file, last, rotation, how.when, notices) {
-        Ok(files) => Ok(Some(NextPieces { files, spare })),
-        Err(why) => Err(unlisted(why)),
-    }
-}
-
-// Serves a session from this point, whose next pieces go there, or whose lines all go to this file.
-fn resume_in<I: Read, C: Write, T: Write + Drop, P: Pieces<T> + Drop, H: HangUp, F: Write>(
-    r: &mut I,
-    w: &mut C,
-    point: ResumePoint,
-    file: T,
-    pieces: Option<NextPieces<P>>,
-    connection: Option<&H>,
-    faults: &mut F,
-) -> (Status, ResumedRun<T>)
-    requires there { IsAs (T.contents file) (text_of point.resumed.past.items) }
-    requires recent { point.recent ≡ point.heard.items ++ point.resumed.past.items }
-    requires place { point.place ≡ place_of point.resumed.past.items }
-    requires kept { IsKept (lines_at point) point.resumed.present }
-    requires rules { point.resumed.present.rules ≡ point.session.rules }
-    ensures over { (single : Bool) × IsOverBehind single point.session.rules point.heard.items (lines_at point)
-        T.contents (record {
-          left = I.remaining r.old;
-          left_now = I.remaining r.new;
-          held = C.contents w.old;
-          held_now = C.contents w.new;
-        }) (record {
-          status = result.0;
-          told = F.contents faults.old;
-          told_now = F.contents faults.new;
-        }) result.1 }
-{
-    match pieces {
-        None => resume_stream(r, w, point, file, OnePiece, None, connection, faults),
-        Some(pieces) => {
-            let NextPieces { files, spare } = pieces;
-            resume_stream(r, w, point, file, files, Some(spare), connection, faults)
-        }
-    }
+) -> Result<(FilePieces<'a, N>, StreamRoom), NoMemory> {
+    let (bytes, keep) = (u64::MAX, None);
+    let rotation = how.rotation.unwrap_or(Rotation { bytes, keep });
+    let files = FilePieces::new(at, last, rotation, how.when, notices)?;
+    Ok((files, StreamRoom::new(alloc)?))
 }
 
 // Why a server can't take a file so, if it can't. It is locked, if it can. The next piece would replace a symbolic link.
@@ -310,14 +264,6 @@ fn untakable(rt: &HostRuntime, file: &File, how: Resuming<'_>) -> Option<Untrace
         Ok(()) if !is_regular(file) => Some(Untraced::Irregular),
         Ok(()) if how.rotation.is_some() && is_link(rt, path) => Some(Untraced::Irregular),
         Ok(()) => None,
-    }
-}
-
-// Whether what stands at a path is a symbolic link.
-fn is_link(rt: &HostRuntime, path: Path<'_>) -> bool {
-    match fs::symlink_metadata(rt, path) {
-        Ok(found) => found.is_symlink(),
-        Err(_) => false,
     }
 }
 
@@ -382,14 +328,14 @@ fn end_at<F: Write>(faults: &mut F, status: Status, whole: bool, there: bool) ->
 }
 
 /// What a server goes on from behind the lines of a trace's file, under these rules: all its lines, up to the last
-/// newline. If they begin with a head, and aren't enough to know messages that are sent again, it reads the piece before
-/// as well, which is legal under its own rules; without one that fits, the fault is `Trace`. What is told of the file's lines goes to `details`. All memory
-/// that the session needs is made before the file is read.
-pub fn resumed_from<S: Read, B: Read + Drop>(
+/// newline. If they begin with a head, and aren't enough to know messages that are sent again, it reads pieces before,
+/// too, each by its own rules, until they are enough; if they never are, or one isn't legal or doesn't fit, the fault is
+/// `Trace`. What is told of the file's lines goes to `details`. All memory that the session needs is made before the
+/// file is read.
+pub fn resumed_from<S: Read, P: PiecesBefore>(
     alloc: Global,
     rules: Rules,
-    under: Rules,
-    before: Option<B>,
+    before: &mut P,
     file: &mut S,
     details: &mut Details,
 ) -> Result<ResumePoint, CommandFault>
@@ -397,13 +343,14 @@ pub fn resumed_from<S: Read, B: Read + Drop>(
         (λ text. AreWholeLines text point.resumed.past.items point.bytes)) }
     ensures recent { IfOk result (λ point. point.recent ≡ point.heard.items ++ point.resumed.past.items) }
     ensures heard { IfOk result (λ point.
-        IsHeardBefore under (left_of B.remaining before) point.resumed.past.items point.heard.items) }
+        IsHeardBefore rules (P.left before.old) point.resumed.past.items point.heard.items) }
     ensures enough { IfOk result (λ point. AreEnough point.place point.recent) }
     ensures place { IfOk result (λ point. point.place ≡ place_of point.resumed.past.items) }
     ensures kept { IfOk result (λ point. IsKept (lines_at point) point.resumed.present) }
     ensures present { IfOk result (λ point. point.resumed.present.rules ≡ point.session.rules) }
     ensures rules { IfOk result (λ point. point.session.rules ≡ rules) }
-    ensures error { IfErr result (λ fault. IsSoOfAll (S.remaining file.old) (λ text. FileSays rules text fault)) }
+    ensures error { IfErr result (λ fault.
+        IsSoOfAll (S.remaining file.old) (λ text. FileSays rules (P.left before.old) text fault)) }
 {
     let Ok((session, stream)) = rooms(alloc, rules) else {
         return Err(CommandFault::NoMemory);
@@ -423,11 +370,11 @@ pub fn resumed_from<S: Read, B: Read + Drop>(
         Ok(resumed) => resumed,
         Err(fault) => return Err(fault),
     };
-    let last = match with_before(alloc, under, before, recent, place) {
+    let last = match with_before(alloc, rules, before, recent, place) {
         Ok(last) => last,
         Err(fault) => return Err(fault),
     };
-    let LastLines { past, recent } = last;
+    let LastLines { past, recent, .. } = last;
     Ok(ResumePoint {
         resumed,
         heard: past,

@@ -19,8 +19,8 @@ use std::io::{Read, Write};
 /// Serves a session that goes on from this point, with one worker: what the client sends is read from `r`, and the
 /// replies go to `w`. `file` has the text of the point's lines and nothing more. The replies that they lack are written
 /// to it first, and then the lines of each order before any of its replies leaves. Before a read a new piece may begin,
-/// if there is room for the text of its head (`spare`): then its file comes back. If `r` and `w` are those of a
-/// connection, it is hung up once the session is over.
+/// and `spare` is the room for the text of its head: then its file comes back. If `r` and `w` are those of a connection,
+/// it is hung up once the session is over.
 ///
 /// A fault is one line on `faults`. Behind the session's fault it is told that the trace failed, if the file lacks
 /// lines.
@@ -30,7 +30,7 @@ pub fn resume_stream<I: Read, C: Write, T: Write + Drop, P: Pieces<T> + Drop, H:
     point: ResumePoint,
     file: T,
     pieces: P,
-    spare: Option<StreamRoom>,
+    spare: StreamRoom,
     connection: Option<&H>,
     faults: &mut F,
 ) -> (Status, ResumedRun<T>)
@@ -39,7 +39,7 @@ pub fn resume_stream<I: Read, C: Write, T: Write + Drop, P: Pieces<T> + Drop, H:
     requires place { point.place ≡ place_of point.resumed.past.items }
     requires kept { IsKept (lines_at point) point.resumed.present }
     requires rules { point.resumed.present.rules ≡ point.session.rules }
-    ensures over { IsOverBehind P.single point.session.rules point.heard.items (lines_at point) T.contents (record {
+    ensures over { IsOverBehind point.session.rules point.heard.items (lines_at point) T.contents (record {
       left = I.remaining r.old;
       left_now = I.remaining r.new;
       held = C.contents w.old;

@@ -24,15 +24,18 @@ mod ending;
 mod options;
 mod serve;
 mod serving;
+mod trace_file;
 mod unused;
 
 pub use fl_stream::WhenWriterFails;
+pub use lockd_faults::{Observer, Parting, Untraced};
 pub use lockd_resume::{HangUp, Resuming, end_unopened, head_rules, resume_on};
 pub use lockd_streams::{
-    Announcing, Observer, Parting, Rotation, Untraced, WhenUnwritten, end_traced_to,
-    file_to_go_on_in, new_file, remove_if_at,
+    Rotation, TracePath, TraceWriter, WhenUnwritten, file_to_go_on_in, is_at, new_first_piece,
+    next_name, remove_if_at,
 };
 pub use options::{ServeOptions, TraceTo};
 pub use serve::serve_on;
 pub use serving::serve_stream;
+pub use trace_file::{end_traced_to, new_file};
 pub use unused::is_unused;

@@ -5,13 +5,13 @@ ghost use Rattle.std.specs.Io.{ReadsAtMost};
 use crate::host::Host;
 use lockd_cli::SaidRules;
 use lockd_commands::{
-    CommandFault, Details, LINE_ROOM, Noting, Rules, Status, check_row_on, end, explain_streams,
-    explain_trace, read_opening,
+    CommandFault, Details, LINE_ROOM, Noting, PieceReader, Rules, Status, check_row_on, end,
+    explain_streams, explain_trace, read_opening,
 };
 use std::alloc::AllocError;
 use std::fs::File;
 use std::io;
-use std::io::{ErrorKind, Read, Write};
+use std::io::{Chain, Cursor, ErrorKind, Read, Write};
 use std::path::Path;
 
 // A piece, which is opened once it is read, and closed at its end.
@@ -19,7 +19,10 @@ use std::path::Path;
 struct Piece<'a> {
     rt: &'a HostRuntime,
     path: &'a str,
-    file: Option<File>,
+    // The rules that its head names.
+    named: Option<Rules>,
+    // What was read ahead of a file that can't be read twice stands before the rest of it.
+    file: Option<Chain<Cursor<Vec<u8>>, File>>,
     // It was read, and the last read failed for this reason.
     begun: bool,
     unread: Option<ErrorKind>,
@@ -30,24 +33,53 @@ impl<'a> Piece<'a> {
         Piece {
             rt,
             path,
+            named: None,
             file: None,
             begun: false,
             unread: None,
         }
     }
 
-    // Reads, and opens the file before, if nothing was read yet.
+    // Reads ahead which rules its head names; none, if it names none, or can't be read. A file that can't be read
+    // twice, as a pipe, stays open.
+    fn look_ahead(&mut self) -> Result<(), AllocError> {
+        let Ok(mut file) = File::open(self.rt, Path::new(self.path)) else {
+            return Ok(());
+        };
+        let mut room = [0; LINE_ROOM];
+        let Ok(opening) = read_opening(&mut file, &mut room) else {
+            return Ok(());
+        };
+        self.named = opening.rules;
+        if !is_regular(&file) {
+            let mut ahead = Vec::new(self.rt.alloc());
+            ahead.extend_from_slice(&room[..opening.bytes])?;
+            self.file = Some(Cursor::new(ahead).chain(file));
+        }
+        Ok(())
+    }
+
+    // Reads, and opens the file before, if nothing was read yet and it isn't open.
     fn read_on(&mut self, buf: &mut [u8]) -> io::Result<usize>
         ensures { ReadsAtMost result buf.new }
     {
         if !self.begun {
             self.begun = true;
-            self.file = Some(File::open(self.rt, Path::new(self.path))?);
+            self.open()?;
         }
         match &mut self.file {
             Some(file) => file.read(buf),
             None => Ok(0),
         }
+    }
+
+    // Opens the file, if it isn't open.
+    fn open(&mut self) -> io::Result<()> {
+        if self.file.is_none() {
+            let file = File::open(self.rt, Path::new(self.path))?;
+            self.file = Some(Cursor::new(Vec::new(self.rt.alloc())).chain(file));
+        }
+        Ok(())
     }
 }
 
@@ -67,7 +99,8 @@ impl Read for Piece<'_> {
     }
 }
 
-/// `lockd check PIECE..`. Rules that aren't said are those of the last piece's head. A piece that can't be read is named.
+/// `lockd check PIECE..`. Rules that aren't said are those of each piece's own head, or, if it has none, those of the
+/// piece behind it. A piece that can't be read is named.
 pub fn check_pieces(host: Host<'_>, said: SaidRules, paths: &[String]) -> Status {
     let (rt, alloc) = (host.rt, host.rt.alloc());
     let mut output = Noting::new(io::writer(rt));
@@ -75,11 +108,10 @@ pub fn check_pieces(host: Host<'_>, said: SaidRules, paths: &[String]) -> Status
     let Ok(mut pieces) = pieces_at(rt, paths) else {
         return end(&mut faults, Err(CommandFault::NoMemory));
     };
-    let rules = said.over(rules_of_last(rt, paths));
+    give_rules(said, pieces.as_mut_slice());
     let mut details = Details::new();
     let status = check_row_on(
         alloc,
-        rules,
         pieces.as_mut_slice(),
         &mut output,
         &mut faults,
@@ -89,59 +121,65 @@ pub fn check_pieces(host: Host<'_>, said: SaidRules, paths: &[String]) -> Status
         explain_unread(&mut faults, pieces.as_slice());
     }
     if host.verbose {
-        let name = last_begun(pieces.as_slice());
         explain_streams(&mut faults, status, None, output.failed());
-        explain_trace(&mut faults, alloc, status, name, rules, &details);
+        if let Some(last) = last_begun(pieces.as_slice()) {
+            let name = last.input.path;
+            explain_trace(&mut faults, alloc, status, name, last.rules, &details);
+        }
     }
     status
 }
 
-// The pieces at these paths, none of which is opened yet.
-fn pieces_at<'a>(rt: &'a HostRuntime, paths: &'a [String]) -> Result<Vec<Piece<'a>>, AllocError> {
+// The pieces at these paths, of which the heads were read ahead.
+fn pieces_at<'a>(
+    rt: &'a HostRuntime,
+    paths: &'a [String],
+) -> Result<Vec<PieceReader<Piece<'a>>>, AllocError> {
     let mut pieces = Vec::new(rt.alloc());
     for path in paths.iter() {
-        pieces.push(Piece::new(rt, path.as_str()))?;
+        let mut input = Piece::new(rt, path.as_str());
+        input.look_ahead()?;
+        let rules = Rules::standard();
+        pieces.push(PieceReader { rules, input })?;
     }
     Ok(pieces)
 }
 
+// Gives each piece the rules that are said, and those of its head where nothing is said. If it has no head, these are
+// those of the piece behind it, and of the last one the standard ones.
+fn give_rules(said: SaidRules, pieces: &mut [PieceReader<Piece<'_>>]) {
+    let mut named = Rules::standard();
+    for piece in pieces.iter_mut().rev() {
+        named = piece.input.named.unwrap_or(named);
+        piece.rules = said.over(named);
+    }
+}
+
 // Says which piece can't be read.
-fn explain_unread<W: Write>(to: &mut W, pieces: &[Piece<'_>]) {
+fn explain_unread<W: Write>(to: &mut W, pieces: &[PieceReader<Piece<'_>>]) {
     for piece in pieces.iter() {
-        if let Some(why) = piece.unread {
-            let path = piece.path;
+        if let Some(why) = piece.input.unread {
+            let path = piece.input.path;
             let _ = writeln!(to, "{path}: {why}");
         }
     }
 }
 
-// The path of the last piece that was read.
-fn last_begun<'a>(pieces: &[Piece<'a>]) -> &'a str {
-    let mut name = "";
+// The last piece that was read.
+fn last_begun<'a, 'b>(pieces: &'b [PieceReader<Piece<'a>>]) -> Option<&'b PieceReader<Piece<'a>>> {
+    let mut last = None;
     for piece in pieces.iter() {
-        if piece.begun {
-            name = piece.path;
+        if piece.input.begun {
+            last = Some(piece);
         }
     }
-    name
+    last
 }
 
-// The rules that the last piece's head names.
-fn rules_of_last(rt: &HostRuntime, paths: &[String]) -> Rules {
-    match paths.last() {
-        Some(path) => head_rules(rt, path.as_str()),
-        None => Rules::standard(),
-    }
-}
-
-// The rules that the head of a trace's file names; the standard ones, if it names none, or can't be read.
-fn head_rules(rt: &HostRuntime, path: &str) -> Rules {
-    let Ok(mut file) = File::open(rt, Path::new(path)) else {
-        return Rules::standard();
-    };
-    let mut room = [0; LINE_ROOM];
-    match read_opening(&mut file, &mut room) {
-        Ok(opening) => opening.rules.unwrap_or(Rules::standard()),
-        Err(_) => Rules::standard(),
+// Whether a file can be read twice.
+fn is_regular(file: &File) -> bool {
+    match file.metadata() {
+        Ok(found) => found.is_file(),
+        Err(_) => false,
     }
 }

@@ -1,8 +1,8 @@
 //! What `--verbose` adds on standard error.
 
 use lockd_commands::{Details, Rules, Status, explain_streams, explain_trace};
+use lockd_faults::{Misfit, Observer, Parting, Untraced};
 use lockd_resume::ResumeObserver;
-use lockd_streams::{Misfit, Observer, Parting, Untraced};
 use std::alloc::Global;
 use std::fmt::Display;
 use std::fs::Files;
@@ -137,7 +137,7 @@ impl<R: Files, W: Write> Observer for ServerWords<'_, R, W> {
                 "{file} goes on from a piece before it, which isn't there: {file}.N has its last orders, which may be sent again"
             )),
             Untraced::Headed(number) => self.say(format_args!(
-                "{file}.{number} isn't the piece before {file}, or can't be read, or both have too few orders: move it away if it is none, and put that piece back"
+                "{file}.{number} isn't the next piece before {file}, can't be read, or is the first one and all have too few orders: put back the pieces that stand before {file}"
             )),
             Untraced::Emptied(number) => self.say(format_args!(
                 "{file} has no lines, though {file}.{number} is a piece before it: put {file} back, or move the pieces away to begin with nothing"
@@ -148,9 +148,6 @@ impl<R: Files, W: Write> Observer for ServerWords<'_, R, W> {
             }
             Untraced::Unturned => self.say(format_args!(
                 "{file}: its head names other RULES, and no new piece could be begun by these"
-            )),
-            Untraced::Short => self.say(format_args!(
-                "{file}: its head names other RULES, and these can begin a new piece only behind 65536 orders and replies: go on without them first"
             )),
             Untraced::Unlisted(why) => self.say(format_args!(
                 "{file}: the pieces before and behind it can't be looked for: {why}"
@@ -166,9 +163,7 @@ impl<R: Files, W: Write> Observer for ServerWords<'_, R, W> {
 
     fn lost(&mut self) {
         let file = self.file;
-        self.say(format_args!(
-            "{file}: it was removed or replaced: another file is there by now, or none"
-        ));
+        self.say(format_args!("{file}: it was cut, or is gone: another file is there, or none"));
     }
 }
 

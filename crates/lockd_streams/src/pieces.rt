@@ -1,16 +1,19 @@
 //! A trace's file that is the last piece of its trace. Those before it have numbers behind its name: FILE.1, FILE.2, ..
 
-ghost use Rattle.std.specs.Prelude.{◌≡◌, IfOk};
+ghost use Rattle.std.specs.Prelude.{◌≡◌, ◌<◌, IfOk, IfSome};
 
-use crate::retrying::{Announcing, Retrying, WhenUnwritten};
+use crate::placed_file::{
+    PlacedFile, TracePath, after_pause, is_time, open_regular, remove_untaken,
+};
+use crate::retrying::{Announcing, PieceWriter, Retrying, WhenUnwritten};
 use crate::trace_file::{is_at, remove_if_at};
 use fl_stream::Pieces;
 use std::alloc::{AllocError, Global};
 use std::fmt::Write as _;
-use std::fs::{File, OpenFile, OpenOptions, TryLockError};
+use std::fs::File;
 use std::io::{ErrorKind, Write};
-use std::os::unix::fs::{MetadataExt, chown};
 use std::path::Path;
+use std::time::Instant;
 use std::{fs, io};
 
 // A dot and a number of 64 bits have so many bytes at most.
@@ -18,118 +21,124 @@ const NUMBER_ROOM: usize = 21;
 
 const GONE: &str = "the file was removed or replaced";
 
+const LINK: &str = "it is a symbolic link";
+
 // How many names that others took are passed by, before a piece gets none.
 const MOST_TAKEN: u64 = 1000;
 
 /// When the next piece of a trace begins, and which stay.
 #[derive(Clone, Copy)]
 pub struct Rotation {
-    /// A piece is over once it has so many bytes.
+    /// A piece is over once it has so many bytes, and 65,536 orders and replies.
     pub bytes: u64,
     /// So many pieces stay, the one at hand among them; all, if that isn't said.
     pub keep: Option<u64>,
 }
 
-/// What writes a piece of a trace.
-pub type PieceWriter<'a, N> = Retrying<'a, Announcing<'a, File, N>, HostRuntime>;
-
-/// The pieces of a trace whose last one is a file of this name. The next one is written to FILE.new. Once its head is
-/// whole, the file at hand gets a number, and FILE.new takes its place. So at each moment FILE is the piece that counts.
-/// If that fails, the lines go on in the file at hand, `notices` gets a line of it, and the next try comes once that has
-/// grown by as much again. All memory is there before.
+/// The pieces of a trace whose last one is FILE. The next one is written to FILE.new. Once its head is whole, the file at
+/// hand gets a number, and FILE.new takes its place. So at each moment FILE is the piece that counts. If that fails, the
+/// lines go on in the file at hand, `notices` gets a line of it, and the next try comes once that has grown by as much
+/// again. A piece whose file was cut is over at once. All memory is there before.
 #[derive(Drop)]
 pub struct FilePieces<'a, N> {
-    rt: &'a HostRuntime,
-    name: &'a str,
+    at: TracePath<'a>,
     names: PieceNames<'a>,
-    // The file of the piece at hand, and of the next one, to ask for their sizes and numbers.
-    here: File,
-    next: Option<File>,
     rotation: Rotation,
     when: WhenUnwritten,
     notices: N,
     // The greatest number that a piece has.
     last: u64,
-    // How many bytes the file at hand has when a piece is due.
+    // How many bytes the piece at hand has when the next one is due, and when it is due behind one that was cut.
     due_at: u64,
+    cut_due_at: Option<Instant>,
     // A piece couldn't be begun, and none was since.
     failed: bool,
+    turn: Option<Turn>,
+}
+
+// A turn from one piece to the next.
+#[derive(Drop)]
+struct Turn {
+    here: File,
+    next: File,
+    bytes: u64,
+    // No piece before it is needed any more.
+    enough: bool,
+    // Its file was cut.
+    is_cut: bool,
 }
 
 impl<'a, N: Write + Copy> FilePieces<'a, N> {
-    /// Behind this file, whose name this is, and before which this is the greatest number of a piece.
+    /// Behind FILE, before which this is the greatest number of a piece.
     pub fn new(
-        rt: &'a HostRuntime,
-        name: &'a str,
-        here: &File,
+        at: TracePath<'a>,
         last: u64,
         rotation: Rotation,
         when: WhenUnwritten,
         notices: N,
-    ) -> io::Result<FilePieces<'a, N>> {
+    ) -> Result<FilePieces<'a, N>, AllocError> {
         Ok(FilePieces {
-            rt,
-            name,
-            names: PieceNames::of(rt.alloc(), name)?,
-            here: here.try_clone()?,
-            next: None,
+            at,
+            names: PieceNames::of(at.rt.alloc(), at.name)?,
             rotation,
             when,
             notices,
             last,
             due_at: rotation.bytes,
+            cut_due_at: None,
             failed: false,
+            turn: None,
         })
     }
 
-    // A new file for the next piece, which is locked, so that no other server goes on in it.
-    fn make_next(&mut self) -> io::Result<File> {
-        let path = self.names.next()?;
-        remove_untaken(self.rt, path);
-        let made = OpenOptions::new()
-            .append(true)
-            .create_new(true)
-            .open(self.rt, path)?;
-        match locked_like(self.rt, path, &made, &self.here) {
-            Ok(same) => {
-                self.next = Some(same);
-                Ok(made)
-            }
+    // Makes FILE.new, for a piece behind this one.
+    fn make_next(&mut self, here: &PlacedFile<'a, N>, enough: bool) -> io::Result<File> {
+        let own = here.file().try_clone()?;
+        let made = self.at.make_next(&own)?;
+        let next = match made.try_clone() {
+            Ok(next) => next,
             Err(why) => {
-                let _ = fs::remove_file(self.rt, path);
-                Err(why)
+                remove_if_at(self.at.rt, self.at.next, &made);
+                return Err(why);
             }
-        }
+        };
+        self.turn = Some(Turn {
+            here: own,
+            next,
+            bytes: here.bytes(),
+            enough,
+            is_cut: here.is_cut(),
+        });
+        Ok(made)
     }
 
-    // Takes the file of a next piece away that doesn't count.
-    fn drop_next(&mut self) {
-        if let Some(next) = self.next.take() {
-            if let Ok(path) = self.names.next() {
-                remove_if_at(self.rt, path.as_str(), &next);
-            }
-        }
-    }
-
-    // The next piece, whose head this file has, counts from now on.
-    fn put(&mut self, next: &File) -> io::Result<()> {
+    // The next piece counts from now on, whose head this file has. A file at hand that was cut, and is gone, gets no
+    // number.
+    fn put(&mut self, turn: &Turn, next: &File) -> io::Result<()> {
         next.sync_data()?;
-        let number = self.number_here()?;
-        let from = self.names.next()?;
-        fs::rename(self.rt, from, Path::new(self.name))?;
+        let is_gone = turn.is_cut && self.at.refuse_another().is_ok();
+        let number = if is_gone {
+            self.last
+        } else {
+            self.number(&turn.here)?
+        };
+        self.at.put_next()?;
         self.last = number;
         Ok(())
     }
 
     // Gives the file at hand a number greater than those of all pieces, and says which. If it has one, since a server
     // was killed in just this moment, that is it.
-    fn number_here(&mut self) -> io::Result<u64> {
-        if !is_at(self.rt, Path::new(self.name), &self.here) {
+    fn number(&mut self, here: &File) -> io::Result<u64> {
+        if !is_at(self.at.rt, self.at.file(), here) {
             return Err(io::Error::new(ErrorKind::NotFound, GONE));
+        }
+        if is_link(self.at.rt, self.at.file()) {
+            return Err(io::Error::new(ErrorKind::InvalidInput, LINK));
         }
         for taken in 0..MOST_TAKEN {
             let number = self.last.saturating_add(1).saturating_add(taken);
-            if self.takes(number)? {
+            if self.takes(here, number)? {
                 return Ok(number);
             }
         }
@@ -137,134 +146,109 @@ impl<'a, N: Write + Copy> FilePieces<'a, N> {
     }
 
     // Gives the file at hand this number, and says whether it has it: another file may.
-    fn takes(&mut self, number: u64) -> io::Result<bool> {
+    fn takes(&mut self, here: &File, number: u64) -> io::Result<bool> {
+        let TracePath { rt, .. } = self.at;
         let path = self.names.numbered(number)?;
-        match fs::hard_link(self.rt, Path::new(self.name), path) {
+        match fs::hard_link(rt, self.at.file(), path) {
             Ok(()) => Ok(true),
-            Err(why) if why.kind() == ErrorKind::AlreadyExists => Ok(is_at(
-                self.rt, path, &self.here,
-            )),
+            Err(why) if why.kind() == ErrorKind::AlreadyExists => Ok(is_at(rt, path, here)),
             Err(why) => Err(why),
-        }
-    }
-
-    // Removes pieces from this number down to one that isn't there.
-    fn remove_from(&mut self, number: u64) {
-        for below in 0..number {
-            let Ok(path) = self.names.numbered(number - below) else {
-                return;
-            };
-            if !remove_untaken(self.rt, path) {
-                return;
-            }
         }
     }
 
     // Removes the pieces that don't stay.
     fn remove_old(&mut self) {
-        if let Some(keep) = self.rotation.keep {
-            let number = self.last.saturating_add(1).saturating_sub(keep);
-            self.remove_from(number);
+        let Some(keep) = self.rotation.keep else {
+            return;
+        };
+        let number = self.last.saturating_add(1).saturating_sub(keep);
+        for below in 0..number {
+            let Ok(path) = self.names.numbered(number - below) else {
+                return;
+            };
+            if !remove_untaken(self.at.rt, path) {
+                return;
+            }
         }
     }
 
     // Tells why there is no new piece, if that isn't told yet, and puts the next one off.
-    fn fail(&mut self, why: &io::Error) {
+    fn fail(&mut self, why: &io::Error, bytes: u64) {
         if !self.failed {
-            let _ = writeln!(self.notices, "no new piece of {}: {why}", self.name);
+            let _ = writeln!(self.notices, "no new piece of {}: {why}", self.at.name);
         }
-        self.put_off();
+        self.put_off(bytes);
     }
 
-    // A piece was begun. It is told, if none was when the last one was due.
-    fn recover(&mut self) {
-        if self.failed {
+    // A piece was begun. It is told, if none was when the last one was due, or its file was cut.
+    fn recover(&mut self, is_cut: bool) {
+        if self.failed || is_cut {
             self.failed = false;
-            let _ = writeln!(self.notices, "{} goes on in a new piece", self.name);
+            let _ = writeln!(self.notices, "{} goes on in a new piece", self.at.name);
         }
     }
 
-    // None was begun: the next one is due once the file has grown by as much again.
-    fn put_off(&mut self) {
+    // None was begun behind one of so many bytes: the next one is due once that has grown by as much again, or if it was
+    // cut after a pause.
+    fn put_off(&mut self, bytes: u64) {
         self.failed = true;
-        self.due_at = size_of_file(&self.here).saturating_add(self.rotation.bytes);
+        self.due_at = bytes.saturating_add(self.rotation.bytes);
+        self.cut_due_at = after_pause(self.at.rt);
     }
 }
 
 impl<'a, N: Write + Copy + Drop> Pieces<PieceWriter<'a, N>> for FilePieces<'a, N> {
-    fn is_due(&self) -> bool {
-        size_of_file(&self.here) >= self.due_at
+    fn is_due(&self, here: &PieceWriter<'a, N>, enough: bool) -> bool {
+        let file = here.writer().file();
+        let is_long = enough && file.bytes() >= self.due_at;
+        is_long || file.is_cut() && is_time(self.at.rt, self.cut_due_at)
     }
 
-    fn begin(&mut self) -> Option<PieceWriter<'a, N>> {
-        match self.make_next() {
-            Ok(file) => {
-                let told = self.failed;
-                let draft = Announcing::draft(file, self.name, self.notices, told);
-                Some(Retrying::new(draft, self.rt, WhenUnwritten::End))
+    fn begin(&mut self, here: &PieceWriter<'a, N>, enough: bool) -> Option<PieceWriter<'a, N>> {
+        let file = here.writer().file();
+        match self.make_next(file, enough) {
+            Ok(made) => {
+                let draft = PlacedFile::draft(self.at, made, self.notices);
+                let told = Announcing::draft(draft, self.at.name, self.notices, self.failed);
+                Some(Retrying::new(told, self.at.rt, WhenUnwritten::End))
             }
             Err(why) => {
-                self.fail(&why);
+                self.fail(&why, file.bytes());
                 None
             }
         }
     }
 
     fn end(&mut self, writer: &mut PieceWriter<'a, N>) -> bool {
-        if let Err(why) = self.put(writer.writer().file()) {
-            self.fail(&why);
+        let Some(turn) = self.turn.take() else {
+            return false;
+        };
+        if let Err(why) = self.put(&turn, writer.writer().file().file()) {
+            self.fail(&why, turn.bytes);
+            self.turn = Some(turn);
             return false;
         }
-        if let Some(next) = self.next.take() {
-            self.here = next;
-        }
         self.due_at = self.rotation.bytes;
-        self.recover();
+        self.cut_due_at = None;
+        self.recover(turn.is_cut);
         writer.settle(self.when);
-        self.remove_old();
+        if turn.enough {
+            self.remove_old();
+        }
         true
     }
 
     fn give_up(&mut self) {
-        self.drop_next();
-        self.put_off();
-    }
-}
-
-// Locks a new file at a path, and gives it once more. Its permissions and its owner are those of another, as far as this
-// process may give them.
-fn locked_like(rt: &HostRuntime, path: Path<'_>, made: &File, other: &File) -> io::Result<File> {
-    made.try_lock()?;
-    let found = other.metadata()?;
-    let _ = chown(rt, path, Some(found.uid()), Some(found.gid()));
-    made.set_permissions(found.permissions())?;
-    made.try_clone()
-}
-
-// Takes a file at a path away, unless a server has it locked, and says whether it did.
-fn remove_untaken(rt: &HostRuntime, path: Path<'_>) -> bool {
-    if let Ok(file) = open_regular(rt, path) {
-        if let Err(TryLockError::WouldBlock) = file.try_lock() {
-            return false;
+        if let Some(turn) = self.turn.take() {
+            remove_if_at(self.at.rt, self.at.next, &turn.next);
+            self.put_off(turn.bytes);
         }
     }
-    fs::remove_file(rt, path).is_ok()
 }
 
-// The regular file at a path, to be read. No other one is opened, since that may wait.
-fn open_regular(rt: &HostRuntime, path: Path<'_>) -> io::Result<File> {
-    if !fs::metadata(rt, path)?.is_file() {
-        return Err(io::Error::from(ErrorKind::InvalidInput));
-    }
-    File::open(rt, path)
-}
-
-// How many bytes a file has; none, if the system doesn't tell.
-fn size_of_file<T: OpenFile>(file: &T) -> u64 {
-    match file.metadata() {
-        Ok(found) => found.len(),
-        Err(_) => 0,
-    }
+/// Whether what stands at a path is a symbolic link, which the next piece would replace.
+pub fn is_link(rt: &HostRuntime, path: Path<'_>) -> bool {
+    matches!(fs::symlink_metadata(rt, path), Ok(found) if found.is_symlink())
 }
 
 /// The greatest number of a piece before a trace's file: of a file FILE.N, from 1 on, that isn't this one. If there is
@@ -286,18 +270,6 @@ pub fn last_piece(rt: &HostRuntime, name: &str, file: &File) -> io::Result<u64> 
         }
     }
     Ok(last)
-}
-
-/// The piece of this number before a trace's file, to be read: none, if it is 0, or can't be opened.
-pub fn open_piece(rt: &HostRuntime, name: &str, number: u64) -> Result<Option<File>, AllocError> {
-    if number == 0 {
-        return Ok(None);
-    }
-    let mut names = PieceNames::of(rt.alloc(), name)?;
-    match names.numbered(number) {
-        Ok(path) => Ok(open_regular(rt, path).ok()),
-        Err(_) => Ok(None),
-    }
 }
 
 // The folder of a path, and the name in it.
@@ -332,26 +304,46 @@ impl<'a> PieceNames<'a> {
         Ok(PieceNames { name, text })
     }
 
-    // That of the next piece, while its head is written.
-    fn next(&mut self) -> io::Result<Path<'_>> {
-        self.begin()?;
-        self.text.push_str("new")?;
-        Ok(Path::new(self.text.as_str()))
-    }
-
     // That of the piece of this number.
     fn numbered(&mut self, number: u64) -> io::Result<Path<'_>> {
-        self.begin()?;
-        match write!(self.text, "{number}") {
-            Ok(()) => Ok(Path::new(self.text.as_str())),
-            Err(_) => Err(io::Error::from(ErrorKind::OutOfMemory)),
-        }
+        self.text.clear();
+        write!(self.text, "{}.{number}", self.name)?;
+        Ok(Path::new(self.text.as_str()))
+    }
+}
+
+/// The pieces before a trace's file, which are opened from the last to the first: FILE.N, FILE.(N-1), ..
+#[derive(Drop)]
+pub struct OlderPieces<'a> {
+    rt: &'a HostRuntime,
+    names: PieceNames<'a>,
+    /// The number of the piece that is opened next; 0, if there is none.
+    pub number: u64,
+}
+
+impl<'a> OlderPieces<'a> {
+    /// Those of a file of this name, from this number on.
+    pub fn new(
+        rt: &'a HostRuntime,
+        name: &'a str,
+        number: u64,
+    ) -> Result<OlderPieces<'a>, AllocError>
+        ensures { IfOk result (λ it. it.number ≡ number) }
+    {
+        let names = PieceNames::of(rt.alloc(), name)?;
+        Ok(OlderPieces { rt, names, number })
     }
 
-    // The front of each.
-    fn begin(&mut self) -> Result<(), AllocError> {
-        self.text.clear();
-        self.text.push_str(self.name)?;
-        self.text.push('.')
+    /// The next piece, to be read. None, if there is none, or it can't be opened.
+    pub fn open_next(&mut self) -> Option<File>
+        ensures { IfSome result (λ _. self.new.number < self.old.number) }
+    {
+        let number = self.number;
+        self.number = number.saturating_sub(1);
+        if number == 0 {
+            return None;
+        }
+        let path = self.names.numbered(number).ok()?;
+        open_regular(self.rt, path).ok()
     }
 }

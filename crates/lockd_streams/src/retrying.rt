@@ -2,6 +2,8 @@
 
 ghost use Rattle.std.specs.Prelude.{◌≡◌};
 
+use crate::placed_file::{PlacedFile, TracePath};
+use std::fs::File;
 use std::io;
 use std::io::{ErrorKind, Write};
 use std::marker::Model;
@@ -49,20 +51,10 @@ impl<'a, T: Write, N: Write> Announcing<'a, T, N> {
         ensures { result ≡ file }
     {
         Announcing {
-            file,
-            name,
-            notices,
             failed: told,
             is_draft: true,
+            ..Announcing::new(file, name, notices)
         }
-    }
-
-    // It is a draft no more.
-    fn settle(&mut self)
-        ensures { self.new ≡ self.old }
-    {
-        self.failed = false;
-        self.is_draft = false;
     }
 
     /// The file.
@@ -117,6 +109,23 @@ impl<T: Write, N: Write> Write for Announcing<'_, T, N> {
     }
 }
 
+/// What writes a trace's file, which keeps its place.
+pub type TraceWriter<'a, N> = Announcing<'a, PlacedFile<'a, N>, N>;
+
+impl<'a, N: Write + Copy> TraceWriter<'a, N> {
+    /// Looks for the file, and says whether it is at its path, with all that it had.
+    pub fn is_kept(&mut self) -> bool {
+        self.file.is_kept()
+    }
+
+    // The head of a next piece counts from now on.
+    fn settle(&mut self) {
+        self.failed = false;
+        self.is_draft = false;
+        self.file.settle();
+    }
+}
+
 /// What a server does that goes on behind a trace, while the trace's file can't be written.
 #[derive(Clone, Copy, Debug, PartialEq, Eq)]
 pub enum WhenUnwritten {
@@ -160,11 +169,29 @@ impl<'a, W: Write, C: Clock> Retrying<'a, W, C> {
     }
 }
 
-impl<'a, T: Write, N: Write, C: Clock> Retrying<'a, Announcing<'a, T, N>, C> {
-    /// The draft of a piece counts from now on, and while it can't be written, this happens.
-    pub fn settle(&mut self, when: WhenUnwritten)
-        ensures { self.new ≡ self.old }
-    {
+/// What writes a piece of a trace.
+pub type PieceWriter<'a, N> = Retrying<'a, TraceWriter<'a, N>, HostRuntime>;
+
+impl<'a, N: Write + Copy> PieceWriter<'a, N> {
+    /// To the file at this path, which has so many bytes.
+    pub fn behind(
+        at: TracePath<'a>,
+        file: File,
+        bytes: u64,
+        when: WhenUnwritten,
+        notices: N,
+    ) -> PieceWriter<'a, N> {
+        let placed = PlacedFile::new(at, file, bytes, notices);
+        Retrying::new(Announcing::new(placed, at.name, notices), at.rt, when)
+    }
+
+    /// Looks for the file, and says whether it is at its path, with all that it had.
+    pub fn is_kept(&mut self) -> bool {
+        self.writer.is_kept()
+    }
+
+    // The draft of a piece counts from now on, and while it can't be written, this happens.
+    pub(crate) fn settle(&mut self, when: WhenUnwritten) {
         self.when = when;
         self.writer.settle();
     }

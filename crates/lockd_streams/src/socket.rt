@@ -4,8 +4,7 @@ ghost use Rattle.std.specs.Prelude.{◌≡◌, ◌↔◌, [], IsErr, IsTrue};
 ghost use Rattle.std.specs.Path.{path_bytes};
 ghost use Rattle.lockd_streams.specs.Inside.{IsSameSocket};
 
-use crate::observer::Observer;
-use lockd_faults::{read_all, split_line};
+use lockd_faults::{Observer, read_all, split_line};
 use std::alloc::Global;
 use std::fs::{Files, OpenOptions};
 use std::io::ErrorKind;

@@ -5,11 +5,12 @@ ghost use Rattle.std.specs.Io.{ReadsAtMost};
 ghost use Rattle.std.specs.Io.KnownBytes.{Keeps, ReadConsumes};
 ghost use Rattle.lockd_streams.specs.Inside.{WouldWait};
 
-use crate::observer::Parting;
+use lockd_faults::Parting;
 use std::io;
 use std::io::{ErrorKind, Read, Write};
 use std::marker::Model;
 use std::os::unix::net::UnixStream;
+use std::time::Duration;
 
 // How many reads one spin tries, some tens of microseconds long. A client that waits for each reply needs less until
 // its next message.
@@ -17,6 +18,9 @@ const TRIES: u32 = 128;
 
 // How many reads come without a spin after one that found nothing.
 const WITHOUT_SPIN: u32 = 64;
+
+// How many seconds a read waits at the most, if it isn't to wait for ever.
+const TICK: u64 = 1;
 
 // How often a write is tried that finds a full socket which doesn't wait. It is made to wait before each further try,
 // so that only a spin that begins in just that moment makes one more needed.
@@ -31,6 +35,8 @@ pub struct Spinning<'a, R> {
     stream: R,
     // What `stream` reads from. Contracts see that the stream is read, whatever this is.
     socket: &'a UnixStream,
+    // Reads have a timeout.
+    ticks: bool,
     // How many reads come before the next spin.
     without_spin: u32,
     // What the last read said of the client.
@@ -51,8 +57,20 @@ impl<'a, R: Read> Spinning<'a, R> {
         Spinning {
             stream,
             socket,
+            ticks: false,
             without_spin: 0,
             client: Parting::Here,
+        }
+    }
+
+    /// The same, but a read that waits for a second is told as interrupted.
+    pub fn ticking(stream: R, socket: &'a UnixStream) -> Spinning<'a, R>
+        ensures { result ≡ stream }
+    {
+        let timeout = Some(Duration::from_secs(TICK));
+        Spinning {
+            ticks: socket.set_read_timeout(timeout).is_ok(),
+            ..Spinning::new(stream, socket)
         }
     }
 
@@ -76,10 +94,22 @@ impl<'a, R: Read> Spinning<'a, R> {
             return None;
         }
         let read = read_soon(&mut self.stream, buf);
-        // If this is refused, a later read or write is told as one that failed.
+        // If this is refused, a later read is told as one that failed or was interrupted, and a write as one that failed.
         let _ = self.socket.set_nonblocking(false);
         if read.is_none() {
             self.without_spin = WITHOUT_SPIN;
+        }
+        read
+    }
+
+    // Reads without a spin. If it waited for too long, it was interrupted.
+    fn read_once(&mut self, buf: &mut [u8]) -> io::Result<usize>
+        ensures { ReadsAtMost result buf.new
+            × ReadConsumes (R.remaining self.old) (R.remaining self.new) result buf.new }
+    {
+        let read = self.stream.read(buf);
+        if self.ticks && would_wait(&read) {
+            return Err(io::Error::from(ErrorKind::Interrupted));
         }
         read
     }
@@ -91,7 +121,7 @@ impl<R: Read> Read for Spinning<'_, R> {
     fn read(&mut self, buf: &mut [u8]) -> io::Result<usize> {
         let read = match self.spin(buf) {
             Some(read) => read,
-            None => self.stream.read(buf),
+            None => self.read_once(buf),
         };
         self.client = parting(&read);
         read
@@ -163,6 +193,7 @@ fn parting(read: &io::Result<usize>) -> Parting {
     match read {
         Ok(0) => Parting::Closed,
         Ok(_) => Parting::Here,
+        Err(error) if error.kind() == ErrorKind::Interrupted => Parting::Here,
         Err(error) => Parting::Unread(error.kind()),
     }
 }

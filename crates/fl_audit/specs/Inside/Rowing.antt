@@ -2,7 +2,7 @@
 use Rattle.std.specs.Prelude.{◌≡◌, ℕ, List, [], ◌∷◌, ◌++◌, map, take, Option, Some, None}
 use Rattle.std.specs.List.{AllByRecursion}
 use Rattle.fl_audit.specs.Inside.Seams.{end_seen}
-use Rattle.fl_audit.specs.Pieces.{End, end_of, GoesOnFrom, BreaksAt, IsRow}
+use Rattle.fl_audit.specs.Pieces.{Piece, End, end_of, GoesOnFrom, BreaksAt, IsRow}
 use Rattle.fl_audit.specs.Rows.{AreLeft}
 use Rattle.fl_audit.specs.declared.row.Outcome.{Outcome}
 use Rattle.fl_audit.specs.declared.row.Outcome.TheVariants.{Ends, Breaks}
@@ -16,12 +16,12 @@ use Rattle.fl_waiting.specs.declared.rules.Rules.{Rules}
 -- a piece is legal, and goes on from this end, if it has to
 abbrev pub IsFit : Rules → Option End → List Line → Type 0
 IsFit rules None lines = IsLegal rules lines
-IsFit rules (Some end) lines = GoesOnFrom rules end lines
+IsFit rules (Some end) lines = GoesOnFrom end (record { rules = rules; lines = lines })
 
 -- line n is the first that isn't so
 abbrev pub IsBroken : Rules → Option End → List Line → ℕ → Type 0
 IsBroken rules None lines n = DiffersAt rules lines n
-IsBroken rules (Some end) lines n = BreaksAt rules end lines n
+IsBroken rules (Some end) lines n = BreaksAt end (record { rules = rules; lines = lines }) n
 
 -- which line is the first that isn't so, if one is
 abbrev pub IsBreak : Rules → Option End → List Line → Option ℕ → Type 0
@@ -29,9 +29,8 @@ IsBreak rules end lines None = IsFit rules end lines
 IsBreak rules end lines (Some n) = IsBroken rules end lines n
 
 -- this is the end of a legal piece
-pub record IsEnd (rules : Rules) (lines : List Line) (e : PieceEnd) : Type 0 where
-  pub under : e.present.rules ≡ rules
-  pub is : end_seen e ≡ end_of rules lines
+abbrev pub IsEnd : Rules → List Line → PieceEnd → Type 0
+IsEnd rules lines e = end_seen e ≡ end_of (record { rules = rules; lines = lines })
 
 -- what comes of a piece
 abbrev pub IsOutcome : Rules → Option End → List Line → Outcome → Type 0
@@ -46,15 +45,17 @@ pub record IsTextOutcome (rules : Rules) (end : Option End) (text : List ℕ) (o
   pub is : IsOutcome rules end lines outcome
 
 -- the end of the last piece, if there is one
-pub data IsLastEnd (rules : Rules) (pieces : List (List Line)) : Option PieceEnd → Type 0 where
-  no_piece : pieces ≡ [] → IsLastEnd rules pieces None
-  last_piece : (before : List (List Line)) (last : List Line) (e : PieceEnd) → pieces ≡ before ++ last ∷ [] → IsEnd rules last e
-      → IsLastEnd rules pieces (Some e)
+pub data IsLastEnd (pieces : List Piece) : Option PieceEnd → Type 0 where
+  no_piece : pieces ≡ [] → IsLastEnd pieces None
+  last_piece : (before : List Piece) (last : Piece) (e : PieceEnd) → pieces ≡ before ++ last ∷ []
+      → IsEnd last.rules last.lines e → IsLastEnd pieces (Some e)
 
 -- The first of what was left to read was read: these pieces, which are in a row, and end so.
-pub record HaveRow (rules : Rules) (lefts : List (Option (List ℕ))) (count : ℕ) (end : Option PieceEnd) : Type 0 where
-  pub pieces : List (List Line)
-  pub fits : AllByRecursion Fits pieces
-  pub read : AreLeft (take count lefts) (map text_of pieces)
-  pub row : IsRow rules pieces
-  pub ends : IsLastEnd rules pieces end
+pub record HaveRow (rules : List Rules) (lefts : List (Option (List ℕ))) (count : ℕ) (end : Option PieceEnd)
+    : Type 0 where
+  pub pieces : List Piece
+  pub under : take count rules ≡ map (λ (piece : Piece). piece.rules) pieces
+  pub fits : AllByRecursion (λ (piece : Piece). Fits piece.lines) pieces
+  pub read : AreLeft (take count lefts) (map (λ (piece : Piece). text_of piece.lines) pieces)
+  pub row : IsRow pieces
+  pub ends : IsLastEnd pieces end

@@ -18,7 +18,6 @@ HeadTells rules end lines = (head rest : List Line) → lines ≡ head ++ rest �
 
 -- the lines go on from the end, as far as they are heard
 pub record IsGoing (rules : Rules) (end : End) (lines : List Line) : Type 0 where
-  pub under : end.present.rules ≡ rules
   pub begins : lines ≢ [] → BeginsAt end lines
   pub tells : HeadTells rules end lines
 

@@ -35,7 +35,7 @@ IsFailureOf fault (failed.BadLine bad) = (fault.fault ≡ audits.BadLine bad.lin
 IsFailureOf fault (failed.Other other) = (other ≢ command.Write) × IsOther other
 
 -- Why pieces aren't judged. Only if the output can't be written something may be written, and they are judged then.
-abbrev pub IsFailure : Rules → List (Option (List ℕ)) → Option (List ℕ) → Option (List ℕ) → Failed → Type 0
+abbrev pub IsFailure : List Rules → List (Option (List ℕ)) → Option (List ℕ) → Option (List ℕ) → Failed → Type 0
 IsFailure rules lefts old new (failed.BadLine bad) =
     ((piece : ℕ) × IsSoOfTexts lefts (λ texts. IsBadRow rules texts piece bad.line) × IsBadLine piece bad.line bad) × Keeps old new
 IsFailure rules lefts old new (failed.Other fault) =

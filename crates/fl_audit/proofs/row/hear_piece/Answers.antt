@@ -19,16 +19,17 @@ returns-in-Ok-clause-said g c =
     let out = c.outcome_of.result in
     let end : Option End = option_map (λ e. end_seen e) c.args.before in
     let rules = parts.ensures.rules ∙ c.in-Ok.ensures.rules in
+    let own = c.args.piece.now.rules in
     let ends = ap (λ (a : Along). a.end) (parts.ensures.along ∙ c.in-Ok.ensures.along ∙ c.behind-beside.ensures.along) in
-    let is : IsOutcome c.args.rules end heard.judge.lines out =
-    subst (λ (ls : List Line). IsOutcome c.args.rules end ls out) parts.ensures.lines
-    (subst (λ (e : Option End). IsOutcome c.args.rules e parts.result.0.lines out) ends
+    let is : IsOutcome own end heard.judge.lines out =
+    subst (λ (ls : List Line). IsOutcome own end ls out) parts.ensures.lines
+    (subst (λ (e : Option End). IsOutcome own e parts.result.0.lines out) ends
     (subst (λ (r : Rules). IsOutcome r (along parts.result.1).end parts.result.0.lines out) rules c.outcome_of.ensures)) in
-    of_all (g.R.Read.remaining c.args.input.now) (λ text. AreJudged None false text heard.judge.lines heard.bytes)
-    (λ text. IsTextOutcome c.args.rules end text out)
+    of_all (g.R.Read.remaining c.args.piece.now.input) (λ text. AreJudged None false text heard.judge.lines heard.bytes)
+    (λ text. IsTextOutcome own end text out)
     (λ text judged. record { lines = heard.judge.lines; spelled = judged.whole refl; fits = judged.first.fits; is = is }) c.in-Ok.ensures.heard
 
 pub returns-in-Err-clause-bad : goal.returns-in-Err-clause-bad
 returns-in-Err-clause-bad g c = λ n e.
-    of_all (g.R.Read.remaining c.args.input.now) (λ text. IsBad None false text n) (λ text. BreaksAt LineFits text n)
+    of_all (g.R.Read.remaining c.args.piece.now.input) (λ text. IsBad None false text n) (λ text. BreaksAt LineFits text n)
     (λ text bad. bad.breaks) (c.in-Err.ensures.bad n (other_err c.in-Err.fault (fault.BadLine n) e))

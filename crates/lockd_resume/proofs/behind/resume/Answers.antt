@@ -45,7 +45,6 @@ returns-clause-resumed g c =
           (so_of (λ (j : Pieced). IsPiece rules j.lines j.here.lines) ended.result.0.journal journal c.in-Some.is ended.ensures.piece);
       all = c.into_here.ensures.all ∙ ap (behind_head journal.before journal.head) (sym piece);
       all_stored = ap (λ (s : Stream). behind_head journal.before journal.head s.noted) (sym here);
-      one = c.into_here.ensures.single;
       begun = c.finish-file.ensures.begun;
       whole = c.finish-file.ensures.whole;
       there = c.finish-file.ensures.there;

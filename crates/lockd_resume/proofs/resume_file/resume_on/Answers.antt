@@ -4,6 +4,6 @@ use Rattle.lockd_resume.proofs.resume_file.resume_on.Goals as goal
 
 pub returns-clause-over : goal.returns-clause-over
 returns-clause-over g c =
-    let run = c.resume_in-status.result.1 in
-    let over = c.resume_in-status.ensures.over.1 in
-    inr (serves _ _ _ _ _ _ _ _ _ run _ c.in-Ok.ensures.rules over (c.end_at-status.ensures run.fault _ over.ends))
+    let run = c.resume_stream-status.result.1 in
+    let over = c.resume_stream-status.ensures.over in
+    inr (serves _ _ _ _ _ _ _ _ run _ c.in-Ok-ready_under.ensures.rules over (c.end_at-status.ensures run.fault _ over.ends))

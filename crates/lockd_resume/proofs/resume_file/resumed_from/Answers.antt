@@ -2,20 +2,22 @@ use Rattle.std.proofs.Common.{◌∙◌, rules, sym, subst}
 use Rattle.fl_audit.specs.First.{IsSoOfAll}
 use Rattle.fl_audit.specs.declared.finding.AuditFault.TheVariants.{NoMemory}
 use Rattle.lockd_resume.specs.Behind.{FileSays}
-use Rattle.lockd_resume.specs.Heard.{IsHeardBefore, left_of}
+use Rattle.lockd_resume.specs.Heard.{IsHeardBefore}
 use Rattle.lockd_resume.proofs.BehindLemmas.{unread}
 use Rattle.lockd_resume.proofs.resume_file.resumed_from.Goals as goal
 
 pub returns-in_default-clause-error : goal.returns-in_default-clause-error
-returns-in_default-clause-error g c = unread c.args.rules (g.S.Read.remaining c.args.file.now) NoMemory (λ n is. absurd (cc is))
+returns-in_default-clause-error g c =
+    unread c.args.rules (g.P.PiecesBefore.left c.args.before.now) (g.S.Read.remaining c.args.file.now) NoMemory (λ n is. absurd (cc is))
 
 pub returns-in-Err-clause-error : goal.returns-in-Err-clause-error
 returns-in-Err-clause-error g c =
     let left = g.S.Read.remaining c.args.file.now in
-    subst (λ fault. IsSoOfAll left (λ text. FileSays c.args.rules text fault)) (sym c.told.ensures)
-    (unread c.args.rules left c.in-Err.fault (λ n is. c.in-Err.ensures.bad n (search rules)))
+    let before = g.P.PiecesBefore.left c.args.before.now in
+    subst (λ fault. IsSoOfAll left (λ text. FileSays c.args.rules before text fault)) (sym c.told.ensures)
+    (unread c.args.rules before left c.in-Err.fault (λ n is. c.in-Err.ensures.bad n (search rules)))
 
 pub returns-clause-heard : goal.returns-clause-heard
 returns-clause-heard g c =
-    subst (λ lines. IsHeardBefore c.args.under (left_of g.B.Read.remaining c.args.before) lines c.in-Ok-with_before.last.past.items)
+    subst (λ lines. IsHeardBefore c.args.rules (g.P.PiecesBefore.left c.args.before.now) lines c.in-Ok-with_before.last.past.items)
     (c.in-Ok-hear_cut.ensures.recent ∙ sym c.in-Ok-gone_on.ensures.past) c.in-Ok-with_before.ensures.heard

@@ -14,7 +14,7 @@ returns-in-Some c = λ lines is going.
     let all = c.args.judge.now.lines in
     head_line rules (end_seen c.args.self.now.end) all lines c.args.line.now c.in-Some.core.now c.have_same.result is
     (λ e. c.if-heard-eq1.false (c.heard.ensures ∙ e)) going (c.in-Some.ensures.some.0 refl) c.in-Some.ensures.is
-    (c.a_legal_history_goes_on_by_orders.ensures.rules rules all) c.have_same.ensures.equal c.have_same.ensures.is.1
+    (c.a_legal_history_goes_on_by_orders.ensures.rules rules all) c.have_same.ensures.equal c.have_same.ensures.is
 
 pub returns-in-None : goal.returns-in-None
 returns-in-None c = λ lines is going.

@@ -27,7 +27,7 @@ pub trait Observer {
     /// There is no file for the trace. `cannot trace` was told.
     fn untraced(&mut self, why: Untraced);
 
-    /// The trace's file was removed or replaced by the end. `trace failed` was told.
+    /// The trace's file was cut, or is gone at the end. `trace failed` was told.
     fn lost(&mut self);
 }
 
@@ -58,9 +58,9 @@ pub enum Misfit {
 /// Why a server has no file for its trace.
 #[derive(Drop)]
 pub enum Untraced {
-    /// It begins with a head, and so few lines stand behind that the piece before is wanted, to know messages that are
-    /// sent again. That is the one of this number, and it isn't the one before, or has too few lines. There is none, if
-    /// the number is 0.
+    /// It begins with a head, and so few lines stand behind that pieces before are wanted, to know messages that are
+    /// sent again. The one of this number isn't there, or isn't the one before, or they have too few lines. There is
+    /// none, if the number is 0.
     Headed(u64),
     /// It has no lines, though the piece before it of this number is there: a server would begin with nothing.
     Emptied(u64),
@@ -68,8 +68,6 @@ pub enum Untraced {
     Misfit(Misfit),
     /// No new piece could be begun by the rules that were said, or the last one lacks replies and can't be written.
     Unturned,
-    /// Its head names other rules than those that were said, and it has too few orders and replies for a new piece.
-    Short,
     /// Its folder can't be listed, to find the piece before, for this reason.
     Unlisted(io::Error),
     /// It can't be opened or made, for this reason.
