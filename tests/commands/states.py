@@ -174,11 +174,26 @@ def try_rules_that_a_head_names():
 
 # ---- pieces in a row
 
-def in_pieces(trace, places):
-    """A trace that is cut before these lines: each piece but the first begins with the head behind the one before."""
+# The orders of a file with a lock, for which another owner waits, and what is there then.
+WAITED_FOR = b"ask 0 1 1 0 0 0 create 0 420 61\nask 0 2 2 0 0 0 setlk 1 7 0 9 1 11 0\nask 0 3 2 0 0 0 setlkw 1 8 5 5 1 12 0\n"
+LET_GO = b"ask 0 4 2 0 0 0 setlk 1 7 0 9 2 11 0\ntell 4 ok\ntell 3 ok\n"
+# Each has more room than those before, so that what fits the first fits all.
+ROOMY = RULES, b"0 8192 256 256 1024", b"0 8192 512 4096 1024", b"0 65536 1024 65536 65536"
+
+
+def under(rules, text):
+    """A head, and what stands behind it, that names these rules in place of its own."""
+    begin, rest = text.split(b"\n", 1)
+    words = begin.split()
+    return b" ".join([*words[:2], rules, *words[7:]]) + b"\n" + rest
+
+
+def in_pieces(trace, places, rules=()):
+    """A trace that is cut before these lines: each piece but the first begins with the head behind the one before, perhaps by such rules."""
     lines, found = trace.splitlines(True), []
-    for begin, end in zip([0, *places], [*places, len(lines)]):
-        found.append((said("state", text=found[-1]) if found else b"") + b"".join(lines[begin:end]))
+    for at, (begin, end) in enumerate(zip([0, *places], [*places, len(lines)])):
+        head = said("state", text=found[-1]) if found else b""
+        found.append((under(rules[at], head) if found and rules else head) + b"".join(lines[begin:end]))
     return found
 
 
@@ -217,7 +232,7 @@ def try_pieces_in_a_row():
 
 def try_seams_that_do_not_fit():
     """The first line, if its numbers differ, and the head's last one, if it tells anything else."""
-    first = said("script", text=b"ask 0 1 1 0 0 0 create 0 420 61\nask 0 2 2 0 0 0 setlk 1 7 0 9 1 11 0\nask 0 3 2 0 0 0 setlkw 1 8 5 5 1 12 0\n")
+    first = said("script", text=WAITED_FOR)
     ended = said("state", text=first)
     begin, node, file, lock, wait, go = ended.splitlines(True)
     assert judged([first, ended]) == ("legal\n", "", 0)
@@ -241,6 +256,128 @@ def try_seams_that_do_not_fit():
     assert judged([first[:first.rindex(b"ask")] + b"ask 0 3 2 0 0 0 getattr\n", ended])[0] == "differs 6 of 1\n"
     assert judged([first, ended + b"x\n"]) == ("", "bad line 7 of 2\n", 2)
     assert judged([first, ended], "--runs", "4095")[0] == "differs 1 of 2\n"
+
+
+def try_rules_that_change_in_a_row():
+    """Each piece is judged by the rules that its head names, whatever those of the others are."""
+    first = said("state", text=b"") + said("script", text=WAITED_FOR)
+    ended = said("state", text=first)
+    for rules, other in ((b"0 8192 256 256 1024", RULES), (b"0 4096 1024 65536 2048", b"0 2 1 1 1"), (b"1 4096 256 256 1024", b"0 8192 512 512 2048"),
+                         (b"1 2 1 1 1", b"1 4096 256 2 2")):
+        second = under(rules, ended) + LET_GO
+        assert judged([first, under(rules, ended), ended]) == ("legal\n", "", 0), "they change back"
+        third = under(other, said("state", text=second)) + b"ask 0 5 1 0 0 0 create 0 420 62\n"
+        told = b"tell 5 made 3 33188 1 0 0 2\n", b"tell 5 err 28\n"
+        right, wrong = told if other != b"0 2 1 1 1" else told[::-1]
+        assert judged([first, second, third + right]) == ("legal\n", "", 0), (rules, other)
+        # By rules with more room, or less, the reply differs.
+        line = len((third + wrong).splitlines())
+        assert judged([first, second, third + wrong]) == (f"differs {line} of 3\n", "", 1), (rules, other)
+
+
+def try_random_rows_whose_rules_change():
+    """Random traces, cut in pieces of which each has its own rules, with more room than the trace needs."""
+    numbers, count = random.Random(6), 0
+    for trace in traces(30):
+        places, _ = cuts(trace)
+        places = sorted(numbers.sample(places[1:-1], numbers.randrange(1, 5)))
+        rules = [numbers.choice(ROOMY) for _ in range(len(places) + 1)]
+        found = in_pieces(said("state", text=b"") + trace, [it + 2 for it in places], rules)
+        assert judged(found) == ("legal\n", "", 0), found
+        count += sum(one != other for one, other in zip([RULES, *rules[1:]], rules[1:]))
+        at = numbers.randrange(1, len(found))
+        begin, *rest = found[at].splitlines(True)
+        parts = rest.index(b"go\n")
+        if parts:
+            # A part of what was there is missing, behind a change of rules or not.
+            del rest[numbers.randrange(parts)]
+            ran = judged([*found[:at], begin + b"".join(rest), *found[at + 1:]])
+            assert ran[0].startswith("differs ") and ran[0].endswith(f" of {at + 1}\n") and ran[1:] == ("", 1), (ran, found)
+    assert count > 30, count
+    return f"{count} changes of rules"
+
+
+def try_a_state_that_does_not_fit_other_rules():
+    """The first part of the head for which there is no room, or that needn't wait; and its `go`, if anything is missing."""
+    orders = WAITED_FOR + b"ask 0 5 1 0 0 0 create 0 420 62\nask 0 6 3 0 0 0 setlk 2 9 0 9 1 13 0\nask 0 7 3 0 0 0 setlkw 2 8 5 5 1 12 0\n"
+    first = said("state", text=b"") + said("script", text=orders)
+    ended = said("state", text=first)
+    rows = ended.splitlines(True)
+    assert judged([first, under(b"0 2 2 2 2", ended)]) == ("legal\n", "", 0), ended
+    for rules, word in (b"0 1 256 256 1024", b"lock "), (b"0 4096 1 256 1024", b"wait "), (b"0 4096 256 1 1024", b"node "), (b"0 4096 256 256 1", b"file "):
+        _, line = (at for at, it in enumerate(rows, 1) if it.startswith(word))
+        assert judged([first, under(rules, ended)]) == (f"differs {line} of 2\n", "", 1), (rules, line)
+    # Each part in turn is missing behind a change of rules. One that isn't wanted by those behind it is missed at `go`.
+    for rules in b"1 4096 256 256 1024", b"0 8192 512 512 2048":
+        for at, row in enumerate(rows[1:-1], 1):
+            if not row.startswith((b"node ", b"lock ")):
+                text = under(rules, b"".join(rows[:at] + rows[at + 1:]))
+                assert judged([first, text]) == (f"differs {len(rows) - 1} of 2\n", "", 1), (rules, row)
+        for other in ended.replace(b" 0 9 1 11 0\n", b" 0 8 1 11 0\n"), ended.replace(b" 0 9 1 11 0\n", b" 0 9 1 14 0\n"):
+            assert judged([first, under(rules, other)]) == (f"differs {len(rows)} of 2\n", "", 1), (rules, other)
+        assert judged([first, under(rules, ended).replace(b"state 10 ", b"state 9 ", 1)]) == ("differs 1 of 2\n", "", 1), rules
+
+
+def try_a_request_that_waits_by_fair_rules_alone():
+    """By others it needn't wait, so it doesn't fit them."""
+    orders = WAITED_FOR + b"ask 0 4 2 0 0 0 setlkw 1 9 5 20 1 13 0\n"
+    fair = said("state", "--fair", text=b"") + said("script", "--fair", text=orders.replace(b"0 9 1 11 0", b"0 5 1 11 0"))
+    ended = said("state", text=fair)
+    assert judged([fair, under(RULES, ended)]) == ("legal\n", "", 0), "the lock blocks both"
+    orders = orders.replace(b"setlkw 1 9 5 20 1 13 0", b"setlkw 1 9 15 20 1 13 0").replace(b"setlkw 1 8 5 5 1 12 0", b"setlkw 1 8 5 15 1 12 0")
+    fair = said("state", "--fair", text=b"") + said("script", "--fair", text=orders)
+    ended = said("state", text=fair)
+    waits = [at for at, it in enumerate(ended.splitlines(), 1) if it.startswith(b"wait ")]
+    assert len(waits) == 2 and judged([fair, ended]) == ("legal\n", "", 0), ended
+    assert judged([fair, under(RULES, ended)]) == (f"differs {waits[1]} of 2\n", "", 1), ended
+
+
+def try_rules_that_are_said_of_a_row():
+    """They hold for all pieces, so a head that names others differs. What isn't said is each head's own."""
+    first = said("state", text=b"") + said("script", text=WAITED_FOR)
+    second = under(b"1 4096 300 256 1024", said("state", text=first))
+    third = under(b"0 4096 300 256 2048", second)
+    row = [first, second, third]
+    for words, found in (([], "legal"), (["--runs", "4096"], "legal"), (["--files", "256", "--runs", "4096"], "legal"), (["--parked", "256"], "differs 1 of 2"),
+                         (["--parked", "300"], "differs 1 of 1"), (["--open", "1024"], "differs 1 of 3"), (["--fair"], "differs 1 of 1"),
+                         (["--runs", "4095"], "differs 1 of 1")):
+        ran = judged(row, *words)
+        assert ran == (f"{found}\n", "", 0 if found == "legal" else 1), (words, ran)
+    # The rules of the piece that was read last are told.
+    for at, rules in (2, "--fair --runs 4096 --parked 300 --files 256 --open 1024"), (3, "--runs 4096 --parked 300 --files 256 --open 2048"):
+        texts = [*row[:at - 1], row[at - 1] + b"tell 9 ok\n", *row[at:]]
+        line = len(texts[at - 1].splitlines())
+        _, told, status = judged(texts, "-v")
+        assert status == 1 and told.startswith(f"line {line} of {at}: tell 9 ok\n") and told.endswith(f"\njudged by {rules}: perhaps it was made by other rules\n"), told
+
+
+def try_a_first_piece_without_a_head():
+    """Is judged by the rules of the piece behind it, and alone by the standard ones."""
+    few = b"0 4096 256 1 1024"
+    trace = said("script", "--files", "1", text=b"ask 0 1 1 0 0 0 create 0 420 61\nask 0 2 1 0 0 0 create 0 420 62\n")
+    head = said("state", "--files", "1", text=trace)
+    assert head.startswith(b"state 4 " + few), head
+    assert judged([trace]) == judged([trace, under(RULES, head)]) == ("differs 4 of 1\n", "", 1)
+    assert judged([trace, head]) == judged([trace, head, under(RULES, head)]) == ("legal\n", "", 0)
+    assert judged([trace], "--files", "1") == ("legal\n", "", 0)
+    assert judged([trace, under(RULES, head)], "--files", "1") == ("differs 1 of 2\n", "", 1)
+    assert judged([b"", head])[0] == "differs 1 of 2\n"
+    assert judged([trace, b"", head])[0] == "differs 1 of 2\n"
+
+
+def try_pieces_in_pipes():
+    """They can't be read twice: what is read ahead of each is judged, too."""
+    first = said("state", text=b"") + said("script", text=WAITED_FOR)
+    row = [first, under(b"1 4096 300 256 1024", said("state", text=first)) + LET_GO]
+    for texts, found, status in (row, b"legal\n", 0), ([row[0], row[1] + b"tell 9 ok\n"], b"differs 10 of 2\n", 1), ([b"x\n", row[1]], b"", 2):
+        ends = [os.pipe() for _ in texts]
+        for (_, write), text in zip(ends, texts):
+            os.write(write, text)
+            os.close(write)
+        ran = run("check", *(f"/dev/fd/{read}" for read, _ in ends), pass_fds=[read for read, _ in ends])
+        for read, _ in ends:
+            os.close(read)
+        assert (ran.stdout, ran.returncode) == (found, status), ran
 
 
 def try_pieces_that_cannot_be_read():

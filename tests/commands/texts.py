@@ -405,7 +405,8 @@ def try_what_a_server_says():
     for workers in 1, 4:
         quiet = tries.Server(workers=workers)
         assert set(quiet.session(64)) == {0} and quiet.ended()[1:] == ("", 0), quiet
-    for options, workers, begun in (([], 1, ""), ([], 4, ""), (["--trace", "{file}"], 1, "the trace goes to"), (["--resume", "{file}"], None, "going on behind the lines of")):
+    for options, workers, begun in (([], 1, ""), ([], 4, ""), (["--trace", "{file}"], 1, "the trace goes to"), (["--resume", "{file}"], None, "going on behind the lines of"),
+                                    (["--trace", "{file}", "--rotate", "1"], None, "the trace goes to")):
         server = tries.Server(*options, "--verbose", workers=workers)
         if begun:
             assert told_by(server) == f"{begun} {server.file}\n"
@@ -458,21 +459,20 @@ def try_what_is_said_of_a_client_that_takes_no_replies():
 
 
 def try_what_is_said_of_a_trace_that_goes():
-    """Behind `trace failed`: the file was removed, or another is in its place."""
+    """Behind `trace failed`: another file is in its place. Before that, that it can't be put back."""
     for options, workers in (["--trace", "{file}"], 1), (["--trace", "{file}"], 4), (["--resume", "{file}"], None):
-        for replace in False, True:
-            server = tries.Server(*options, "-v", workers=workers)
-            with server.connect() as client:
-                client.sendall(INIT_BYTES)
-                tries.take(client, 80)
-                os.remove(server.file)
-                if replace:
-                    with open(server.file, "wb"):
-                        pass
-            _, told, status = server.ended()
-            why = f"{server.file}: it was removed or replaced: another file is there by now, or none"
-            assert ({*told.splitlines()[3:]}, status) == ({"trace failed", "the client has closed its end", why}, 2), told
-            assert told.index("trace failed") < told.index(why), told
+        server = tries.Server(*options, "-v", workers=workers)
+        with server.connect() as client:
+            client.sendall(INIT_BYTES)
+            tries.take(client, 80)
+            with open(f"{server.file}.other", "wb") as file:
+                file.write(b"another\n")
+            os.replace(f"{server.file}.other", server.file)
+        _, told, status = server.ended()
+        stays = f"{server.file} was replaced, and can't be put back: another file is there"
+        why = f"{server.file}: it was cut, or is gone: another file is there, or none"
+        assert ({*told.splitlines()[3:]}, status) == ({stays, "trace failed", "the client has closed its end", why}, 2), told
+        assert told.index(stays) < told.index("trace failed") < told.index(why), told
 
 
 def try_when_a_file_is_written_again():

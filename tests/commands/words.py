@@ -20,8 +20,10 @@ LONG = "x" * 5_000
 TOO_LONG_FOR_A_SOCKET = "/tmp/" + "x" * 103
 CREATED = b"ask 0 1 1 0 0 0 create 0 420 61\n"
 OPTIONS = {"--workers": "2", "--trace": "none", "--resume": NOWHERE, "--rotate": "1", "--keep": "2", "--trace-full": "refuse"}
-MISFIT = "error: '--trace-full' takes go-on or refuse with '--trace FILE', and wait or end with '--resume FILE'\n\nFor more information, try '--help'.\n"
-ALONE = "error: '--rotate' needs '--resume FILE', and '--keep' needs '--rotate BYTES'\n\nFor more information, try '--help'.\n"
+MISFIT = "error: '--trace-full' takes go-on or refuse with '--trace FILE', and wait or end with '--resume FILE' or '--rotate BYTES'\n\nFor more information, try '--help'.\n"
+ALONE = "error: '--rotate' needs '--resume FILE' or '--trace FILE', and '--keep' needs '--rotate BYTES'\n\nFor more information, try '--help'.\n"
+MANY = ("error: '--rotate' takes one worker: with several, the head of a new piece would be told while others take orders\n\n"
+        "For more information, try '--help'.\n")
 RULES = {"--fair": [], "--runs": ["1"], "--parked": ["1"], "--files": ["1"], "--open": ["1"]}
 RULED = {(): [], ("script",): [], ("bytes",): [], ("check",): [], ("locks",): [], ("serve",): [NOWHERE]}
 
@@ -101,23 +103,35 @@ def try_resume_alone():
 
 
 def try_words_of_a_full_file():
-    """Two are taken of a new file, and two of one that goes on. Each other is refused before that file is opened."""
+    """Two are taken of a new file, and two of one that goes on, or is in pieces. Each other is refused before that file is opened."""
     new, goes_on = ["go-on", "refuse"], ["wait", "end"]
-    taken = ([], []), (["--trace", "none"], []), (["--trace", NOWHERE], new), (["--resume", NOWHERE], goes_on)
+    taken = (([], []), (["--trace", "none"], []), (["--trace", NOWHERE], new), (["--resume", NOWHERE], goes_on),
+             (["--trace", NOWHERE, "--rotate", "1"], goes_on), (["--rotate", "1", "--workers", "1", "--trace", NOWHERE], goes_on))
     lines = [(word in words, ["serve", NOWHERE, *to, "--trace-full", word]) for to, words in taken for word in new + goes_on]
     are_refused(*(line for fits, line in lines if fits), by="cannot trace\n")
     return are_refused(*(line for fits, line in lines if not fits), by=MISFIT)
 
 
 def try_options_of_pieces():
-    """`--rotate` is refused without `--resume`, and `--keep` without `--rotate`, in each order and whatever else is said."""
-    resume, rotate, keep = ["--resume", NOWHERE], ["--rotate", "1"], ["--keep", "2"]
-    others = [], ["--workers", "2"], ["--trace", "none"], ["--trace", NOWHERE, "--trace-full", "refuse"]
-    taken = resume + rotate, rotate + resume, keep + rotate + resume, [*resume, *rotate, *keep, "--trace-full", "end"]
+    """`--rotate` is refused without a file, and `--keep` without `--rotate`, in each order and whatever else is said."""
+    resume, trace, rotate, keep = ["--resume", NOWHERE], ["--trace", NOWHERE], ["--rotate", "1"], ["--keep", "2"]
+    others = [], ["--workers", "2"], ["--trace", "none"], ["--trace", "none", "--trace-full", "wait"]
+    taken = [[*first, *last, *more] for it in (resume, trace) for first, last in ((it, rotate), (rotate, it))
+             for more in ([], keep, [*keep, "--trace-full", "end"])]
     are_refused(*(["serve", NOWHERE, *it] for it in taken), by="cannot trace\n")
     lines = [[*it, *other] for it in (rotate, keep, rotate + keep, keep + rotate) for other in others]
     lines += [resume + keep, keep + resume, [*keep, *resume, "--trace-full", "end"]]
+    lines += [trace + keep, keep + trace, [*keep, *trace, "--trace-full", "refuse"]]
     return are_refused(*(["serve", NOWHERE, *it] for it in lines), by=ALONE)
+
+
+def try_workers_of_a_new_trace_in_pieces():
+    """One is taken, and more are refused before the file is made, in each order and whatever else is said."""
+    words = ["--trace", NOWHERE], ["--rotate", "1"], ["--keep", "2"]
+    lines = [[number, ["--workers", number], it] for number in ("1", "2", "4", "16") for it in (words, words[::-1], words[:2], words[1::-1])]
+    lines = [(number == "1", ["serve", NOWHERE, *sum([*it[:at], said, *it[at:]], [])]) for number, said, it in lines for at in range(len(it) + 1)]
+    are_refused(*(line for one, line in lines if one), by="cannot trace\n")
+    return are_refused(*(line + more for one, line in lines if not one for more in ([], ["--trace-full", "go-on"])), by=MANY)
 
 
 def try_numbers_of_pieces():

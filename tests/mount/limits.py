@@ -237,11 +237,20 @@ def try_a_trace_that_lacks_whole_lines():
 
 
 def try_a_trace_that_is_removed():
+    """It is put back, but not over another file."""
     trace = f"{WORK}/removed.trace"
     mount = Mount("--trace", trace)
     os.remove(trace)
+    same(mount.end(), (0, "legal"))
+    mount.says(f"{trace} was moved or removed, and is there again\n")
+    trace = f"{WORK}/replaced.trace"
+    mount = Mount("--trace", trace)
+    with open(f"{trace}.other", "w", encoding="ascii") as it:
+        it.write("another\n")
+    os.replace(f"{trace}.other", trace)
     same(mount.end()[0], 3)
-    mount.says(f"trace failed\nlockd_mount: the server ended with status 2: {trace} lacks lines, or was removed or replaced\n")
+    mount.says(f"{trace} was replaced, and can't be put back: another file is there\n",
+               f"trace failed\nlockd_mount: the server ended with status 2: {trace} lacks lines, or is gone\n")
 
 
 def try_a_mount_takes_no_refuse():

@@ -164,25 +164,29 @@ def says_of_its_trace(mount):
 
 
 def try_what_becomes_of_pieces_is_told():
-    """Turns say nothing. What is spoilt is told once, and once more when that changes."""
+    """Turns say nothing. What is spoilt is told once, and once more when that changes. What the server does of it the server says."""
     mount, wanted = InPieces(program=looking_often()), []
 
-    def told(*more):
-        wanted.extend(more)
-        until(lambda: len(says_of_its_trace(mount)) >= len(wanted))
+    def told(*more, quick=()):
+        """This is told, but what stands in `quick` only if the server hasn't mended it by then."""
+        until(lambda: more[-1:] == tuple(says_of_its_trace(mount)[-1:]) or more[-1:] == quick[-1:] or not more)
         # It isn't told again.
         time.sleep(3 * TICK)
-        same(says_of_its_trace(mount), wanted)
+        found = says_of_its_trace(mount)[len(wanted):]
+        assert found in ([*more], [it for it in more if it not in quick]), found
+        wanted.extend(found)
+
+    def server_said(line):
+        until(lambda: f"{mount.file} {line}\n" in mount.output())
 
     it = busy(mount)
     fill(it, 4)
     told()
     same(mount.told(), f"1 piece before, {os.path.getsize(mount.file)} bytes")
     os.rename(mount.file, f"{mount.file}.away")
-    told("was moved or removed")
-    same(mount.told(), "No such file or directory")
-    os.rename(f"{mount.file}.away", mount.file)
-    told("is whole again")
+    server_said("was moved or removed, and is there again")
+    told("was moved or removed", "is whole again", quick=("was moved or removed", "is whole again"))
+    os.unlink(f"{mount.file}.away")
     os.link(mount.file, f"{mount.file}.away")
     os.replace(shutil.copy(mount.file, f"{mount.file}.copy"), mount.file)
     told("was replaced")
@@ -195,9 +199,8 @@ def try_what_becomes_of_pieces_is_told():
     fill(it)
     told("is whole again")
     os.truncate(mount.file, os.path.getsize(mount.file) // 2)
-    told("was cut")
-    fill(it)
-    told("lacks the piece before it, or a part of that")
+    server_said("goes on in a new piece")
+    told("was cut", "lacks the piece before it, or a part of that", quick=("was cut",))
     fill(it)
     told("is whole again")
     # What the server says of pieces is passed on.
@@ -261,7 +264,7 @@ class Allowing(Resumed):
 
 
 def try_a_server_with_greater_limits_keeps_all_locks():
-    """The next one makes room, and begins a piece at once. The end judges those that have its limits, in a row."""
+    """The next one makes room, and begins a piece at once. The end judges all in a row, each by its own limits."""
     for words in (), ("--rotate", "1"):
         mount = Allowing(*words)
         one, two = mount.fill()
@@ -278,7 +281,7 @@ def try_a_server_with_greater_limits_keeps_all_locks():
         same([one.ask("flock", "a", NOT_HELD), two.answer()], ["ok", "ok"])
         for it in one, two:
             it.kill()
-        same((mount.end(), mount.started()), ((0, "legal"), ["check", *[f"{mount.file}.2", mount.file][:2 * len(words)]]))
+        same((mount.end(), mount.started()), ((0, "legal"), ["check", *[f"{mount.file}.1", f"{mount.file}.2", mount.file][:2 * len(words)]]))
 
 
 def try_a_server_with_limits_that_do_not_fit():

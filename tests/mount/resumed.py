@@ -453,22 +453,24 @@ def try_a_file_that_is_gone_or_cut():
 
 
 def try_a_file_that_is_gone_or_cut_is_told_within_seconds():
-    """While the server runs, and once. That of `--trace` is, too."""
+    """While the server runs, and once. One that was removed is put back, and behind one that was cut a new piece begins. That of `--trace` is put back, too."""
     plain = f"{tempfile.mkdtemp(dir=WORK)}/trace"
-    mounts = [(it, it.file) for it in (Resumed(), Resumed())] + [(Mount("--trace", plain), plain)]
-    for mount, _ in mounts:
+    removed, cut, traced = mounts = Resumed(), Resumed(), Mount("--trace", plain)
+    for mount in mounts:
         shell(mount, "flock held echo in", "in")
-    # A mount sees how long it is every three seconds.
-    time.sleep(7)
-    became = "was moved or removed", "was cut", "was moved or removed"
-    for (_, file), spoil in zip(mounts, (os.remove, lambda it: os.truncate(it, 9), os.remove)):
-        spoil(file)
-    for (mount, file), said in zip(mounts, became):
-        until(lambda: f"the trace {file} {said}" in mount.output())
+    os.remove(removed.file)
+    os.truncate(cut.file, 9)
+    os.remove(plain)
+    lines = {removed: (f"{removed.file} was moved or removed, and is there again\n",),
+             cut: (f"{cut.file} was cut\n", f"{cut.file} goes on in a new piece\n"), traced: (f"{plain} was moved or removed, and is there again\n",)}
+    until(lambda: all(it in mount.output() for mount in (removed, cut) for it in lines[mount]))
+    for mount in mounts:
         shell(mount, "flock held echo in", "in")
+    # It isn't told again.
     time.sleep(4)
-    for mount, file in mounts:
-        same((mount.output().count(f"the trace {file} "), mount.end()[0]), (1, 3))
+    same([mount.end() for mount in mounts], 3 * [(0, "legal")])
+    for mount, told in lines.items():
+        same([mount.output().count(it) for it in told], len(told) * [1])
 
 
 def try_a_program_that_is_gone():

@@ -3,6 +3,7 @@ files that are no traces, and a socket that was left.
 
 `tries.py` says how it ends.
 """
+import fcntl
 import os
 import re
 import resource
@@ -208,16 +209,170 @@ def try_a_file_of_a_server_that_traces():
         assert server.ended() == (b"", "", 0)
 
 
-def try_a_resumed_file_that_goes():
-    """One that was removed, or of whose name another has taken the place, is told at the end."""
-    for take_away in os.remove, lambda file: os.replace(shutil.copy(file, f"{file}.copy"), file):
+def moved(file):
+    os.rename(file, f"{file}.away")
+
+
+def emptied(file):
+    os.link(file, f"{file}.away")
+    with open(f"{file}.copy", "xb"):
+        pass
+    os.replace(f"{file}.copy", file)
+
+
+def copied(file):
+    os.replace(shutil.copy(file, f"{file}.copy"), file)
+
+
+WAYS = {"was moved or removed": [os.remove, moved], "was replaced": [emptied]}
+ASKED = [(locks(SETLK, 8, 10, 0, 0, READ), [(8, EAGAIN)])]
+
+
+def is_put_back(way, what, take_away, waits):
+    server = way()
+    client = Client(server)
+    client.meet()
+    before, text = os.stat(server.file), server.traced()
+    take_away(server.file)
+    told = server.tells() if waits else ""
+    if waits:
+        assert server.traced() == text
+    client.ask(ASKED)
+    client.finish()
+    printed, more, status = server.ended()
+    assert (printed, told + more, status) == (b"", f"{server.file} {what}, and is there again\n", 0), (told, more, status)
+    after, lines = os.stat(server.file), server.traced()
+    # One that was moved has two names, so that to move it back changes nothing. Of another there is a copy.
+    assert (after.st_mode, after.st_uid, after.st_ino == before.st_ino) == (before.st_mode, before.st_uid, take_away is moved)
+    assert lines.startswith(text) and judged(lines) == "legal\n", lines
+    assert {*os.listdir(server.folder.name)} <= {"trace", "trace.away"}
+
+
+def try_a_file_that_goes_is_put_back():
+    """One that was removed or moved, or in whose place an empty one stands: while nobody asks for anything, and at the end at the latest."""
+    for what, ways in WAYS.items():
+        for take_away in ways:
+            for waits in True, False:
+                is_put_back(lambda: resuming(traced=LINES), what, take_away, waits)
+
+
+def try_a_copy_is_this_servers():
+    """While it lives, no other goes on in it. One that is killed leaves it, and the next goes on in it."""
+    server = resuming(traced=LINES)
+    client = Client(server)
+    client.meet()
+    moved(server.file)
+    assert server.tells() == f"{server.file} was moved or removed, and is there again\n"
+    cannot_trace(server.file)
+    client.ask(ASKED)
+    text = server.traced()
+    server.serving.kill()
+    assert server.ended()[2] == KILLED
+    client.close()
+    server.start()
+    client = Client(server)
+    client.meet()
+    client.finish()
+    assert server.ended() == (b"", "", 0)
+    assert server.traced() == text
+
+
+def try_a_file_that_cannot_be_put_back():
+    """Another file is there, with something in it, or another server's; or a folder stands at FILE.new. It is told once, and at the end."""
+    def another(server):
+        copied(server.file)
+
+    def taken(server):
+        other = open(f"{server.file}.copy", "xb")
+        fcntl.flock(other, fcntl.LOCK_EX)
+        os.replace(other.name, server.file)
+        return other
+
+    def without_a_name(server):
+        os.mkdir(f"{server.file}.new")
+        os.remove(server.file)
+
+    for take_away, what in (another, "was replaced"), (taken, "was replaced"), (without_a_name, "was moved or removed"):
         server = resuming(traced=LINES)
         client = Client(server)
         client.meet()
-        take_away(server.file)
-        client.ask([(locks(SETLK, 8, 10, 0, 0, READ), [(8, EAGAIN)])])
+        other = take_away(server)
+        text = text_of(server)
+        said = server.tells()
+        assert said.startswith(f"{server.file} {what}, and can't be put back: ") and said.count("\n") == 1, said
+        client.ask(ASKED)
         client.finish()
         assert server.ended() == (b"", "trace failed\n", 2)
+        assert text_of(server) == text
+        if other:
+            other.close()
+
+
+def try_a_file_whose_folder_goes():
+    """A file takes its place. It is told, and at the end."""
+    with tempfile.TemporaryDirectory() as top:
+        os.mkdir(f"{top}/folder")
+        server = Server("--resume", f"{top}/folder/trace", workers=None)
+        client = Client(server)
+        client.meet()
+        os.rename(f"{top}/folder", f"{top}/away")
+        with open(f"{top}/folder", "xb"):
+            pass
+        assert server.tells().startswith(f"{top}/folder/trace was moved or removed, and can't be put back: ")
+        client.finish()
+        assert server.ended() == (b"", "trace failed\n", 2)
+
+
+def try_a_file_that_is_moved_back():
+    """It is told, and it goes on in that."""
+    server = resuming(traced=LINES)
+    client = Client(server)
+    client.meet()
+    moved(server.file)
+    os.mkdir(server.file)
+    assert server.tells().startswith(f"{server.file} was replaced, and can't be put back: ")
+    os.rmdir(server.file)
+    os.rename(f"{server.file}.away", server.file)
+    client.ask(ASKED)
+    client.finish()
+    assert server.ended() == (b"", f"{server.file} is there again\n", 0)
+    assert judged(server.traced()) == "legal\n"
+
+
+def try_a_file_that_is_cut_and_goes():
+    """A new piece begins in its place, and the rest of the old one gets no number."""
+    server = resuming(traced=LINES)
+    client = Client(server)
+    client.meet()
+    wanted = run("state", text=LINES).stdout
+    os.rename(server.file, f"{server.file}.away")
+    os.truncate(f"{server.file}.away", 9)
+    told = server.tells(2)
+    if "is there again" not in told:
+        assert told == f"{server.file} was cut\n{server.file} goes on in a new piece\n", told
+        assert (server.traced(), {*os.listdir(server.folder.name)}) == (wanted, {"trace", "trace.away"})
+    client.ask(ASKED)
+    client.finish()
+    assert server.ended()[2] == 0
+    assert judged(server.traced()) == "legal\n"
+
+
+def try_a_file_that_is_cut():
+    """A new piece begins at once, and tells what is there: its locks aren't lost."""
+    for to in 0, len(LINES) // 2:
+        server = resuming(traced=LINES)
+        client = Client(server)
+        client.meet()
+        wanted = run("state", text=LINES).stdout
+        os.truncate(server.file, to)
+        assert server.tells(2) == f"{server.file} was cut\n{server.file} goes on in a new piece\n"
+        assert server.traced() == wanted, server.traced()
+        with open(f"{server.file}.1", "rb") as cut:
+            assert cut.read() == LINES[:to]
+        client.ask(ASKED)
+        client.finish()
+        assert server.ended() == (b"", "", 0)
+        assert judged(server.traced()) == "legal\n"
 
 
 def try_eight_servers_at_once():

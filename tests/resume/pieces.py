@@ -1,5 +1,5 @@
-"""Tries `lockd serve --resume FILE --rotate BYTES` of the built program: a trace in pieces, restarts behind one, and servers that are killed, or whose
-calls fail, while a new piece begins.
+"""Tries `lockd serve --resume FILE --rotate BYTES`, and `--trace FILE --rotate BYTES`, of the built program: a trace in pieces, restarts behind one, and
+servers that are killed, or whose calls fail, while a new piece begins.
 
 Replies and lines are each time those of a server whose trace is one piece, byte for byte. `tests/resume/long.py` has the session, and
 `tests/shims/turns.c` kills the server; it wants a C compiler. `tries.py` says how it ends.
@@ -12,6 +12,7 @@ import itertools
 import os
 import random
 import re
+import socket
 import sys
 import tempfile
 
@@ -308,27 +309,152 @@ def try_no_other_server_takes_a_new_piece():
 
 
 def try_a_file_that_goes_behind_a_turn():
-    """It was removed, or another has taken its place: told at the end, of the file that counts by then."""
-    for take_away in os.remove, lambda it: os.rename(it, f"{it}.moved"):
+    """It was removed or moved: it is put back by the end, and is the file that counts by then."""
+    for take_away in os.remove, lambda it: os.rename(it, f"{os.path.dirname(it)}/moved"):
         server = due(*ROTATE)
         with Asking(server) as client:
             client.ask(after(1), after(1) + 10)
             take_away(server.file)
             client.ask(after(1) + 10, after(1) + 20)
-        assert server.ended() == (b"", "trace failed\n", 2)
+        assert server.ended() == (b"", f"{server.file} was moved or removed, and is there again\n", 0)
+        is_row(server, 0, after(1) + 20)
 
 
 def try_words_of_pieces():
     """Numbers out of their range, and options without the one that they belong to."""
     with tempfile.TemporaryDirectory() as folder:
         path, file = f"{folder}/socket", f"{folder}/trace"
-        for words in (["--rotate", "1"], ["--trace", file, "--rotate", "1"], ["--resume", file, "--keep", "2"], ["--resume", file, "--rotate", "0"],
+        for words in (["--rotate", "1"], ["--trace", "none", "--rotate", "1"], ["--resume", file, "--keep", "2"], ["--resume", file, "--rotate", "0"],
                       ["--resume", file, "--rotate", "4294967296"], ["--resume", file, "--rotate", "-1"], ["--resume", file, "--rotate", "1M"],
                       ["--resume", file, "--rotate"], ["--resume", file, "--rotate", "1", "--keep", "1"], ["--resume", file, "--rotate", "1", "--keep", "0"],
                       ["--resume", file, "--rotate", "1", "--keep", "4294967296"]):
             ran = run("serve", path, *words)
             assert (ran.stdout, ran.returncode) == (b"", 2) and ran.stderr.startswith(b"error: "), (words, ran)
         assert not os.listdir(folder)
+
+
+# ---- a new trace in pieces
+
+# Within so many orders a piece begins that is due.
+MORE = 5_000
+
+
+def new(*options, **how):
+    """A server whose trace begins in a new FILE, in pieces."""
+    return Server("--trace", "{file}", *ROTATE, *options, **{"workers": None, **how})
+
+
+def new_at_rest(pieces, traced, *options):
+    """The files of such a server, which isn't started."""
+    server = at_rest(pieces, traced, *ROTATE, *options)
+    server.words[server.words.index("--resume")] = "--trace"
+    return server
+
+
+def goes_on_behind(server, *options):
+    """It is started once more, by `--resume FILE` and these options."""
+    server.words[2:] = [server.path, "--resume", server.file, *options]
+    server.start()
+
+
+def try_a_new_trace_in_pieces():
+    """Replies and lines are those of `--resume`, with one worker that is said or not. A server goes on behind the last piece."""
+    for workers, pieces, options in (None, 1, ROTATE), (1, 2, ()):
+        server, at = new(workers=workers), after(pieces) + MORE
+        serves(server, 0, at)
+        texts = is_row(server, 0, at)
+        assert names_of(server) == [*range(1, pieces + 1), ""], names_of(server)
+        for it in texts:
+            assert tries.judged(it) == "legal\n"
+        goes_on_behind(server, *options)
+        serves(server, at, ORDERS)
+        is_row(server, 0, ORDERS)
+        assert names_of(server) == [*range(1, 4 if options else pieces + 1), ""], names_of(server)
+
+
+def try_new_pieces_that_stay():
+    """So many, FILE among them, and the last ones."""
+    for keep, stay in ("2", [2]), ("4294967295", [1, 2]):
+        server, at = new("--keep", keep), after(2) + MORE
+        serves(server, 0, at)
+        assert names_of(server) == [*stay, ""], (keep, names_of(server))
+        texts = [read(it) for it in paths_of(server)]
+        is_row(server, at - sum(it.count(b"\nask ") + it.startswith(b"ask ") for it in texts), at)
+
+
+def try_a_new_trace_with_something_at_its_path():
+    """A file, one with no lines, a folder or a link to nothing, or a piece of an older trace: nobody is served, and nothing changes."""
+    for pieces, traced in ({}, LINES), ({}, b""), ({1: LINES}, None), ({7: piece(0, 100)}, None), ({1: LINES}, b""):
+        refused(new_at_rest(pieces, traced))
+    for make in os.mkdir, lambda it: os.symlink(f"{it}.other", it):
+        server = new_at_rest({}, None)
+        make(server.file)
+        refused(server)
+    server = new_at_rest({"new": b"x\n", "01": b"x\n"}, None)
+    server.start()
+    serves(server, 0, 50)
+    assert read(server.file) == piece(0, 50) and names_of(server) == ["", ".01", ".new"], names_of(server)
+
+
+def try_a_new_trace_of_nobody():
+    """Something is at the path of the socket, and stays, or no path is named. Then no FILE is left."""
+    for make in (lambda it: open(it, "wb").close()), os.mkdir, lambda it: socket.socket(socket.AF_UNIX).bind(it):
+        server = new_at_rest({}, None)
+        make(server.path)
+        refused(server, told="cannot listen\n", named=server.path)
+    with tempfile.TemporaryDirectory() as folder:
+        ran = run("serve", "", "--trace", f"{folder}/trace", *ROTATE)
+        assert (ran.stdout, ran.stderr, ran.returncode) == (b"", b"cannot listen\n", 2), ran
+        assert not os.listdir(folder)
+
+
+def try_a_new_trace_of_a_server_that_waits():
+    """No other server takes its FILE meanwhile. Killed, it leaves FILE empty, and the next one goes on there."""
+    server = new()
+    server.listens()
+    for words in ["--resume", server.file], ["--resume", server.file, *ROTATE], ["--trace", server.file, *ROTATE]:
+        other = run("serve", f"{server.path}.other", *words)
+        assert (other.stdout, other.stderr, other.returncode) == (b"", b"cannot trace\n", 2), other
+    server.serving.kill()
+    assert server.ended() == (b"", "", KILLED) and read(server.file) == b""
+    goes_on_behind(server, *ROTATE)
+    serves(server, 0, 100)
+    assert read(server.file) == text_of(0, 100)
+
+
+def try_a_new_trace_that_is_full():
+    """The lines of the first orders are in FILE once their replies come. By `end` the session ends where FILE can't be written, and FILE stays."""
+    server = new("--trace-full", "end", before=tries.limited(5_000))
+    with Asking(server) as client:
+        expected = b"".join(replies_to(0, 8))
+        client.socket.sendall(sent(0, 8))
+        assert take(client.socket, len(expected)) == expected
+        assert read(server.file) == text_of(0, 8)
+        with contextlib.suppress(ConnectionError), sending(client.socket, sent(8, 1000)):
+            take(client.socket, 1 << 20)
+    printed, told, status = server.ended()
+    assert (printed, status) == (b"", 2) and re.fullmatch(rf"cannot write {re.escape(server.file)}: .+\ntrace failed\n", told), told
+    assert len(read(server.file)) == 5_000 and text_of(0, 1000).startswith(read(server.file))
+
+
+def is_new_cut(how, number):
+    """The server of a new trace dies at this call of its first turn, and another goes on by `--resume`. All replies come once."""
+    server = new(env=turning(dies=f"{how} {number}"))
+    session = Cut(server, 0, after(1) + MORE)
+    assert session.serve() == KILLED, "none died"
+    assert "" in names_of(server), "FILE is gone"
+    goes_on_behind(server, *ROTATE)
+    session.ends()
+    assert names_of(server) == [1, ""], names_of(server)
+    is_row(server, 0, after(1) + MORE)
+
+
+def try_a_new_trace_that_is_killed_in_a_turn():
+    """Before each call of it, and behind the last."""
+    kinds, _ = calls_of_a_turn(0)
+    deaths = [("before", number) for number in range(1, len(kinds) + 1)] + [("after", len(kinds))]
+    each(is_new_cut, deaths)
+    return f"{len(deaths)} died"
 
 
 # ---- restarts
@@ -353,21 +479,27 @@ def try_exactly_once_at_a_seam():
         with Asking(server) as client:
             texts = is_row(server, 0, at + 300)
             assert b"\nwait " in texts[1]
-            begin, end = at - 2000, at + 300
-            client.socket.sendall(sent(begin, end, again=True))
-            # To a request that waited the reply comes at its message, and not again at the order that granted it.
-            asked = {unique_of(it) for it in long().messages[begin:end]}
-            expected = {unique_of(it): it for it in replies_to(begin, ORDERS) if unique_of(it) in asked}
-            waits = waiting(end)
-            count = sum(len(it) for unique, it in expected.items() if unique not in waits)
-            found = fuse.cut(take(client.socket, count))[0]
-            assert {unique_of(it): it for it in found} == {unique: it for unique, it in expected.items() if unique not in waits}
-            assert len(found) == len({*map(unique_of, found)})
+            end = at + 300
+            waits = answers_again(client, at - 2000, end)
             assert is_row(server, 0, end) == texts
             client.ask(end, end + 5000)
             assert waits - waiting(end + 5000), "none was granted"
         assert server.ended() == (b"", "", 0)
         is_row(server, 0, end + 5000)
+
+
+def answers_again(client, begin, end):
+    """These orders come again, and each gets the reply that it had, but for those that still wait. Gives which these are."""
+    client.socket.sendall(sent(begin, end, again=True))
+    # To a request that waited the reply comes at its message, and not again at the order that granted it.
+    asked = {unique_of(it) for it in long().messages[begin:end]}
+    expected = {unique_of(it): it for it in replies_to(begin, ORDERS) if unique_of(it) in asked}
+    waits = waiting(end)
+    count = sum(len(it) for unique, it in expected.items() if unique not in waits)
+    found = fuse.cut(take(client.socket, count))[0]
+    assert {unique_of(it): it for it in found} == {unique: it for unique, it in expected.items() if unique not in waits}
+    assert len(found) == len({*map(unique_of, found)})
+    return waits
 
 
 def waiting(order):
@@ -399,8 +531,8 @@ def try_the_last_lines_at_a_seam():
             assert read(server.file).startswith(before + text_of(first - 1, first).splitlines(True)[0])
 
 
-def refused(server, status=2, told="cannot trace\n"):
-    """Nobody is served, and each file is as it was. With `-v` a line says of which piece that is."""
+def refused(server, status=2, told="cannot trace\n", named=None):
+    """Nobody is served, and each file is as it was. With `-v` a line says of which piece that is, or of which other file."""
     words, before = server.words, snapshot(server)
     for more in [], ["-v"]:
         server.words = [*words, *more]
@@ -409,7 +541,7 @@ def refused(server, status=2, told="cannot trace\n"):
         assert server.serving.poll() is not None, "it serves"
         printed, said, ended = server.ended()
         assert (printed, ended) == (b"", status), (printed, said, ended)
-        assert said == told if not more else re.fullmatch(re.escape(told) + r"(.+\n)+", said) and server.file in said, said
+        assert said == told if not more else re.fullmatch(r"(the trace goes to .+\n)?" + re.escape(told) + r"(.+\n)+", said) and (named or server.file) in said, said
         assert snapshot(server) == before
 
 
@@ -569,11 +701,8 @@ def try_other_rules_begin_a_new_piece():
             assert read(server.file) == told and names_of(server) == [*range(1, last + 1), ""]
 
 
-def try_other_rules_in_a_piece_that_is_too_short():
-    """Behind a new piece the next restart would lack lines, so nobody is served. So it is if the order in which requests wait would change."""
-    for pieces, traced in ({1: piece(0, after(1))}, piece(after(1), after(1) + 150)), ({1: piece(0, 100)}, piece(100, 200)):
-        for more in (), ROTATE:
-            refused(at_rest(pieces, traced, *OTHER, *more))
+def try_other_rules_by_which_requests_wait_otherwise():
+    """The order in which they wait would change, so nobody is served."""
     assert waiting(after(2))
     refused(at_rest({1: piece(0, after(1))}, piece(after(1), after(2)), "--fair"))
 
@@ -945,17 +1074,128 @@ def try_a_folder_for_a_new_piece():
 
 
 def try_a_file_that_goes_before_a_turn():
-    """Someone has removed FILE: no piece begins, and at the end that is told."""
+    """Someone has removed FILE: a piece begins once it is there again."""
     at = after(1)
     server = behind({}, piece(0, at - 40), "--rotate", "1")
     with Asking(server) as client:
         client.ask(at - 40, at - 39)
         os.remove(server.file)
+        assert server.tells() == f"{server.file} was moved or removed, and is there again\n"
         client.ask(at - 39, at + 10)
         client.ask(at + 10, at + 20)
-    printed, told, status = server.ended()
-    assert (printed, status) == (b"", 2) and re.fullmatch(no_new_piece(server) + "trace failed\n", told), told
-    assert names_of(server) == [], names_of(server)
+        assert names_of(server) == [1, ""]
+    assert server.ended() == (b"", "", 0)
+    is_row(server, 0, at + 20)
+
+
+# ---- several short pieces
+
+CHANGES = ("--runs", "5000"), ("--runs", "6000", "--parked", "300"), ("--files", "300")
+
+
+def try_rules_change_within_few_orders():
+    """Each server begins a piece, serves a few orders or none, and is killed. To the next ones messages come again from before all of these pieces,
+    and are answered once. A last server has no RULES, and begins no piece."""
+    def changes(pieces, traced, end, orders, *more):
+        begin, first = end - (2000 if pieces else 200), min(pieces, default=1)
+        server = behind(pieces, traced, *CHANGES[0], *more)
+        for number, rules in enumerate([*CHANGES, ()]):
+            if number:
+                restart(server, (*rules, *more))
+            with Asking(server) as client:
+                answers_again(client, begin, end)
+                client.ask(end, end + orders)
+                server.serving.kill()
+            assert server.ended() == (b"", "", KILLED)
+            end += orders
+            pieces_now = len(pieces) + 1 + min(number + 1, len(CHANGES))
+            assert names_of(server) == [*range(first, first + pieces_now - 1), ""], names_of(server)
+            assert b"".join(behind_head(read(it)) for it in paths_of(server)) == text_of(0, end)
+
+    short = {1: piece(0, after(1))}, piece(after(1), after(1) + 150), after(1) + 150
+    whole = {1: piece(0, after(1))}, piece(after(1), after(2)), after(2)
+    each(changes, [(*short, 40), (*short, 0), (*whole, 40, *ROTATE), (*whole, 0), ({}, state_of(b"") + piece(0, 200), 200, 40, *ROTATE)])
+
+
+def try_a_turn_behind_short_pieces():
+    """What goes by `--keep` isn't wanted any more: the piece that is over has enough."""
+    begin = after(1) + 100
+    end = order_at(long().starts[begin] + LEAST + 50)
+    older = {1: piece(0, after(1)), 2: piece(after(1), after(1) + 40), 3: piece(after(1) + 40, begin)}
+    server = behind(older, piece(begin, end), *ROTATE, "--keep", "2")
+    serves(server, end, end + 20)
+    assert names_of(server) == [4, ""], names_of(server)
+    server.start()
+    with Asking(server) as client:
+        answers_again(client, end - 2000, end + 20)
+        client.ask(end + 20, end + 40)
+    assert server.ended() == (b"", "", 0)
+
+
+SEAMS = 0, 100, 140, 140, 200
+
+
+def short_pieces():
+    """FILE.1 to FILE.4, one of them with no orders, and FILE."""
+    return {it + 1: piece(*SEAMS[it:it + 2]) for it in range(4)}, piece(200, 250)
+
+
+def try_all_short_pieces_are_read():
+    """Messages come again from the first one. A piece that names no rules has those of the piece behind it."""
+    older, traced = short_pieces()
+    server = behind(older, traced)
+    with Asking(server) as client:
+        answers_again(client, 0, 250)
+        client.ask(250, 300)
+    assert server.ended() == (b"", "", 0)
+    assert read(server.file) == piece(200, 300)
+    create = [fuse.create(it, b"%d" % it) for it in range(2, 5)]
+    first = Server("--resume", "{file}", "--files", "2", workers=None)
+    came = exchange(first, INIT + b"".join(create))[len(INIT_REPLY):]
+    assert first.ended() == (b"", "", 0) and fuse.errors(came) == [(2, 0), (3, 0), (4, errno.ENOSPC)]
+    text = first.traced()
+    head = state_of(text, "--files", "2")
+    begin = head.splitlines(True)[0]
+    other = head.replace(begin, begin.replace(b" 2 1024 ", b" 9 1024 "))
+    assert other != head
+    server = behind({1: text, 2: head}, other)
+    with Asking(server) as client:
+        client.socket.sendall(b"".join(map(sent_again, create)))
+        assert take(client.socket, len(came)) == came
+    assert server.ended() == (b"", "", 0)
+    assert read(server.file) == other
+    refused(at_rest({1: text, 2: other}, other))
+
+
+def try_a_short_piece_that_does_not_fit():
+    """One in the midst is missing, is another one, illegal, or no trace: nobody is served."""
+    older, traced = short_pieces()
+    second = older[2]
+    tell = next(at for at, it in enumerate(second.splitlines()) if it.startswith(b"tell ") and it.endswith(b" ok"))
+    line = second.splitlines(True)[tell]
+    wrong = {
+        "missing": None,
+        "empty": b"",
+        "no trace": b"notes\n",
+        "a head alone": head_at(100),
+        "without its last order": piece(100, 139),
+        "with an order more": piece(100, 141),
+        "with an order more in front": piece(99, 140),
+        "with a reply that differs": changed(second, tell, line.replace(b" ok", b" err 71")),
+        "with a bad line": changed(second, tell, b"tell\n"),
+        "cut off": second[:-1],
+        "of other rules by which it isn't legal": second.replace(b" 256 1024 ", b" 1 1024 ", 1),
+    }
+
+    def refuses(number, text):
+        pieces = {**older, number: text}
+        refused(at_rest({it: text for it, text in pieces.items() if text is not None}, traced))
+
+    each(refuses, [(2, it) for it in wrong.values()] + [(1, None), (1, piece(0, 99)), (3, None), (4, None)])
+    server = at_rest({it: text for it, text in older.items() if it != 2}, traced)
+    os.mkdir(f"{server.file}.2")
+    refused(server)
+    return f"{len(wrong) + 5} pieces"
 
 
 if __name__ == "__main__":

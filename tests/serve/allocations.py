@@ -200,7 +200,7 @@ def serve_each_with_file(how, before=None):
 
 
 def try_servers_with_a_trace_file():
-    return "; ".join(serve_each_with_file(["--trace", "{file}", "--workers", str(workers)]) for workers in (1, 4))
+    return "; ".join(serve_each_with_file(["--trace", "{file}", *words]) for words in (["--workers", "1"], ["--workers", "4"], ["--rotate", "1"]))
 
 
 def try_servers_that_go_on():

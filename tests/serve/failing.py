@@ -105,9 +105,22 @@ def ends_by_a_read(number, error, workers):
 def try_each_read_fails():
     """A read gives 29 bytes at most, so eleven find all and the stream's end. An error that is told once isn't asked about again. With one worker all replies
     left before, also if it spins when the read fails."""
-    every = itertools.product(range(1, 13), (EIO, EINTR, EAGAIN, ECONNRESET, 0), (1, 2, 4, 16))
-    each(lambda number, error: does(WORKED, "read failed\n", recv=29, fails=("recv", number, error)), itertools.product(range(1, 12), (EIO, EINTR)))
+    every = itertools.product(range(1, 13), (EIO, EAGAIN, ECONNRESET, 0), (1, 2, 4, 16))
+    each(lambda number: does(WORKED, "read failed\n", recv=29, fails=("recv", number, EIO)), zip(range(1, 12)))
     return f"{sum(each(ends_by_a_read, every))} reads failed"
+
+
+def goes_on_behind_a_read(number, workers):
+    """The read of this number is interrupted, and made again."""
+    ran = serve(STREAM, workers, asleep=True, recv=(29, number, number, EINTR))
+    traced_by(ran.ended, 6, "")
+    assert ran.recv == 11 + (number <= 11), (number, workers, ran)
+    assert sorted(it for it, _ in replies(ran.came)) == [1, 2, 3, 4], (number, ran)
+
+
+def try_each_read_is_interrupted_once():
+    """All is answered."""
+    return f"{len(each(goes_on_behind_a_read, itertools.product(range(1, 13), (1, 2, 4, 16))))} reads"
 
 
 def ends_by_a_write(number, error, workers):

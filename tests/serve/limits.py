@@ -99,7 +99,9 @@ def try_no_threads():
                 server.listens()
                 if left:
                     os.replace(shutil.copy(program, f"{server.file}.other"), server.file)
-                assert starved(server) == (b"", b"", "no memory\n", 2), (threads, options)
+                came, printed, told, status = starved(server)
+                stays = f"{server.file} was replaced, and can't be put back: another file is there\n"
+                assert (came, printed, told.removeprefix(stays if left else ""), status) == (b"", b"", "no memory\n", 2), (threads, options, told)
                 assert os.listdir(server.folder.name) == left, (threads, options)
 
 

@@ -350,7 +350,7 @@ def try_a_full_file_is_told_when_it_comes():
 
 
 def try_a_file_that_is_cut_off_has_no_hole():
-    """Lines that come behind one that was cut to nothing stand at its front."""
+    """Lines that come behind one that was cut to nothing stand at its front. That it was cut is told."""
     server = Server("--trace", "{file}")
     with server.connect() as client:
         client.sendall(INIT + CREATE)
@@ -359,20 +359,24 @@ def try_a_file_that_is_cut_off_has_no_hole():
         client.sendall(setlk(3))
         take(client, 16)
         assert server.traced() == b"ask 0 3 2 0 0 0 setlk 1 7 0 0 2 11 0\ntell 3 ok\n", server.traced()
-    assert server.ended() == (b"", "", 0)
+    assert server.ended() == (b"", f"{server.file} was cut\ntrace failed\n", 2)
 
 
 def try_a_file_that_goes():
-    """A trace whose file was removed, or of whose name another has taken the place, is told."""
-    for take_away in os.remove, lambda file: os.replace(shutil.copy(file, f"{file}.copy"), file):
-        server = Server("--trace", "{file}")
-        with server.connect() as client:
-            client.sendall(INIT + CREATE)
-            take(client, 80 + 160)
-            take_away(server.file)
-            client.sendall(setlk(3))
-            assert len(take(client, 16)) == 16
-        assert server.ended() == (b"", "trace failed\n", 2)
+    """A trace's file that was removed is put back by the end. Of one whose name another has taken, that is told."""
+    for workers in 1, 4:
+        for take_away, told, status in (
+                (os.remove, "{} was moved or removed, and is there again\n", 0),
+                (lambda file: os.replace(shutil.copy(file, f"{file}.copy"), file), "{} was replaced, and can't be put back: another file is there\ntrace failed\n", 2)):
+            server = Server("--trace", "{file}", workers=workers)
+            with server.connect() as client:
+                client.sendall(INIT + CREATE)
+                take(client, 80 + 160)
+                take_away(server.file)
+                client.sendall(setlk(3))
+                assert len(take(client, 16)) == 16
+            assert server.ended() == (b"", told.format(server.file), status)
+            assert status or judged(server.traced()) == "legal\n" and server.traced().endswith(b"\ntell 3 ok\n")
 
 
 def try_a_fair_server():
