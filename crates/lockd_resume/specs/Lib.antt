@@ -3,4 +3,3 @@ pub mod Ending
 pub mod Heard
 pub mod Inside
 pub mod Resumed
-pub mod Said

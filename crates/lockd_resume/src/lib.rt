@@ -6,9 +6,9 @@
 //! serves a session behind them, over any reader and two writers, the client's and the trace's file. Its clauses speak
 //! of one and the same session: what was read and written, what the file has of its lines, the lines on `faults` and
 //! the status. A kill is a reader and writers that fail from some call on, so what they say of the end is said of each
-//! moment of a server; `laws` says what the next one reads of its file. `resume_on` does both with a file and a socket:
-//! it locks the file and cuts it off. Of the bytes of these contracts see nothing, nor a failure of a reader or a
-//! writer. They let through:
+//! moment of a server; `lockd_serve::laws` says what the next one reads of its file. `resume_on` does both with a file
+//! and a socket: it locks the file and cuts it off. Of the bytes of these contracts see nothing, nor a failure of a
+//! reader or a writer. They let through:
 //! - a `resumed_from` that is always refused, and what `fl_judge` lets through;
 //! - a `resume_stream` that says that the file isn't whole though it is, or writes nothing to it before a reply waits;
 //! - one that hangs up before the session, or not at all;
@@ -36,7 +36,6 @@ mod before;
 mod behind;
 mod ending;
 mod hang_up;
-pub mod laws;
 mod observer;
 mod other_rules;
 mod point;

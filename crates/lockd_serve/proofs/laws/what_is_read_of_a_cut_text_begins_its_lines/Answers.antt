@@ -1,5 +1,5 @@
-use Rattle.lockd_resume.proofs.CutTexts.{front, has}
-use Rattle.lockd_resume.proofs.laws.what_is_read_of_a_cut_text_begins_its_lines.Goals as goal
+use Rattle.lockd_serve.proofs.CutTexts.{front, has}
+use Rattle.lockd_serve.proofs.laws.what_is_read_of_a_cut_text_begins_its_lines.Goals as goal
 
 pub returns : goal.returns
 returns c =

@@ -18,7 +18,7 @@ ghost use Rattle.lockd_faults.specs.declared.fault.CommandFault.{CommandFault};
 ghost use Rattle.lockd_faults.specs.declared.fault.CommandFault.TheVariants as command;
 ghost use Rattle.lockd_resume.specs.Behind.{FileSays};
 ghost use Rattle.lockd_resume.specs.Heard.{Text};
-ghost use Rattle.lockd_resume.specs.Said.{CanBeSaid};
+ghost use Rattle.lockd_serve.specs.Said.{CanBeSaid};
 
 use fl_desk::laws::no_head_comes_later;
 use fl_ranges::laws::{blocker_is_the_first_lock_in_conflict, last_change_counts};

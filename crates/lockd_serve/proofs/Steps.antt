@@ -45,9 +45,9 @@ use Rattle.fl_waiting.specs.Waiting.{is_blocked, is_parked, taken_first, taken_o
 use Rattle.fl_waiting.specs.Circle.{is_deadlock}
 use Rattle.fl_waiting.specs.declared.parked.Request.{Request}
 use Rattle.fl_waiting.specs.declared.rules.Rules.{Rules}
-use Rattle.lockd_resume.proofs.Listings.{ListingFits, SitsAnswer, SitsResult, SitsTold, after_close_fits, after_create_fits, after_forget_fits, after_lookup_fits}
-use Rattle.lockd_resume.proofs.Listings.{after_open_fits, after_unlink_fits, create_sits, getattr_sits, lookup_sits, open_sits, sits_if, sits_unless}
-use Rattle.lockd_resume.proofs.Listings.{unlink_sits}
+use Rattle.lockd_serve.proofs.Listings.{ListingFits, SitsAnswer, SitsResult, SitsTold, after_close_fits, after_create_fits, after_forget_fits, after_lookup_fits}
+use Rattle.lockd_serve.proofs.Listings.{after_open_fits, after_unlink_fits, create_sits, getattr_sits, lookup_sits, open_sits, sits_if, sits_unless}
+use Rattle.lockd_serve.proofs.Listings.{unlink_sits}
 
 -- ---- what is there
 

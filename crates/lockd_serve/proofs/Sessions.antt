@@ -21,9 +21,9 @@ use Rattle.fl_trace.specs.Text.{Fits}
 use Rattle.fl_waiting.specs.declared.rules.Rules.{Rules}
 use Rattle.fl_wire.specs.Layout.{opcode_of, unique_of}
 use Rattle.fl_wire.specs.Says.{said}
-use Rattle.lockd_resume.specs.Said.{CanBeSaid}
-use Rattle.lockd_resume.proofs.Histories.{AskedFits, TellsEach, legal_fits}
-use Rattle.lockd_resume.proofs.Steps.{IsNamed, LastCounts}
+use Rattle.lockd_serve.specs.Said.{CanBeSaid}
+use Rattle.lockd_serve.proofs.Histories.{AskedFits, TellsEach, legal_fits}
+use Rattle.lockd_serve.proofs.Steps.{IsNamed, LastCounts}
 
 record SessionFits (s : Session) : Type 0 where
   pub legal : IsLegal s.rules s.lines

@@ -1,5 +1,5 @@
-use Rattle.lockd_resume.proofs.CutTexts.{never_refused}
-use Rattle.lockd_resume.proofs.laws.a_cut_text_of_a_legal_history_is_never_refused.Goals as goal
+use Rattle.lockd_serve.proofs.CutTexts.{never_refused}
+use Rattle.lockd_serve.proofs.laws.a_cut_text_of_a_legal_history_is_never_refused.Goals as goal
 
 pub returns : goal.returns
 returns c = never_refused c.no_text_is_that_of_two_histories.ensures c.a_line_is_short.ensures.lacks

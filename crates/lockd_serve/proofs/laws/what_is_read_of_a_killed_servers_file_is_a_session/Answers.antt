@@ -1,8 +1,8 @@
 use Rattle.std.proofs.Common.{List, [], ◌∷◌, ◌++◌, All}
 use Rattle.std.proofs.lemmas.List.Elements.{All-cons, All-head, All-nil, All-tail}
 use Rattle.fl_session.specs.Session.{Came, session_of}
-use Rattle.lockd_resume.specs.Said.{CanBeSaid}
-use Rattle.lockd_resume.proofs.laws.what_is_read_of_a_killed_servers_file_is_a_session.Goals as goal
+use Rattle.lockd_serve.specs.Said.{CanBeSaid}
+use Rattle.lockd_serve.proofs.laws.what_is_read_of_a_killed_servers_file_is_a_session.Goals as goal
 
 firsts : (first others : List Came) → All CanBeSaid (first ++ others) → All CanBeSaid first
 firsts [] others all = All-nil CanBeSaid

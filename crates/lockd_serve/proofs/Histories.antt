@@ -33,8 +33,8 @@ use Rattle.fl_state.specs.Parts.{part_of}
 use Rattle.fl_state.specs.Telling.{told_by, AreTold}
 use Rattle.fl_trace.specs.Text.{Fits, LineFits}
 use Rattle.fl_waiting.specs.declared.rules.Rules.{Rules}
-use Rattle.lockd_resume.proofs.Listings.{SitsTold, fits_told, nodes_insert}
-use Rattle.lockd_resume.proofs.Steps.{ChangeFits, IsNamed, LastCounts, RequestFits, StateFits, at_once_fits, later_fits, recorded_fits, replies_sit, told_first_fits}
+use Rattle.lockd_serve.proofs.Listings.{SitsTold, fits_told, nodes_insert}
+use Rattle.lockd_serve.proofs.Steps.{ChangeFits, IsNamed, LastCounts, RequestFits, StateFits, at_once_fits, later_fits, recorded_fits, replies_sit, told_first_fits}
 
 -- a node's number leaves room for one more
 abbrev SitsState : StateLine → Type 0

@@ -1,5 +1,5 @@
-use Rattle.lockd_resume.proofs.Histories.{orders_fit}
-use Rattle.lockd_resume.proofs.laws.a_legal_history_can_be_read_back.Goals as goal
+use Rattle.lockd_serve.proofs.Histories.{orders_fit}
+use Rattle.lockd_serve.proofs.laws.a_legal_history_can_be_read_back.Goals as goal
 
 pub returns : goal.returns
 returns c = orders_fit c.last_change_counts.ensures c.blocker_is_the_first_lock_in_conflict.ensures.named
