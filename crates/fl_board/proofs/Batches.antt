@@ -1,5 +1,5 @@
 -- A batch of orders that was handed in.
-use Rattle.std.proofs.Common.{◌≡◌, ◌+◌, ◌<◌, ◌≤◌, List, [], ◌∷◌, length, refl, ap, sym, ◌∙◌, subst, arith}
+use Rattle.std.proofs.Common.{◌≡◌, ◌+◌, ◌<◌, ◌≤◌, Bool, true, false, List, [], ◌∷◌, length, refl, ap, sym, ◌∙◌, subst, arith}
 use Rattle.fl_counter.specs.Answered.{AreAnsweredLast, IsAnsweredLast, answered_by}
 use Rattle.fl_order.specs.declared.order.Order.{Order}
 use Rattle.fl_order.specs.declared.told.Told.{Told}
@@ -62,6 +62,15 @@ stored_in rules old new order tolds one = record {
   count = one.count;
   recorded = one.recorded;
 }
+
+-- an order was handed in, and whether it is stored was noted
+pub stored_or_not : (rules : Rules) (old mid new : Place) (order : Order) (tolds : List Told) (stored : Bool)
+    → (stored ≡ true → new ≡ all_stored mid) → (stored ≡ false → new ≡ mid) → IsHandedIn rules old order tolds mid
+    → IsHandedIn rules old order tolds new
+stored_or_not rules old mid new order tolds true noted waits one =
+    subst (λ (p : Place). IsHandedIn rules old order tolds p) (sym (noted refl)) (stored_in rules old mid order tolds one)
+stored_or_not rules old mid new order tolds false noted waits one =
+    subst (λ (p : Place). IsHandedIn rules old order tolds p) (sym (waits refl)) one
 
 pub all_stored_in : (rules : Rules) (old new : Place) (orders : List Order) (lists : List (List Told)) → 0 < length lists
     → AreHandedIn rules old orders lists new → AreHandedIn rules old orders lists (all_stored new)

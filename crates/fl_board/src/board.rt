@@ -35,7 +35,7 @@ pub struct Board<L: BoardName, R: Wait + Drop + Copy, J: Journal = Lines> {
     // In a box: a proof spells out the layout of what a `Mutex` has.
     shared: Mutex<Box<Shared<L, R, J>>>,
     alloc: Global,
-    // Somebody looked since orders were handed in together last.
+    // Somebody looked since `hand_in_one` or `hand_in_all` was called last.
     looked: AtomicBool,
     workers: usize,
     ghost all: { workers ≡ L.workers },
@@ -138,16 +138,42 @@ impl<L: BoardName, R: Wait + Drop + Copy, J: Journal> Board<L, R, J> {
         ensures room { tolds.new.room ≡ tolds.old.room }
         ensures refused { OnErr result ((seat.new ≡ seat.old) × (tolds.new ≡ tolds.old)) }
     {
-        let (taken, stored) = {
-            let mut shared = self.shared.lock(rt);
-            let taken = shared.hand_in(seat, order, tolds);
-            let stored = taken.is_err() || shared.store_if_due(seat);
-            (taken, stored)
-        };
+        let taken = self.shared.lock(rt).hand_in(seat, order, tolds);
+        let stored = taken?;
         if !stored {
             self.wait_until_stored(rt, seat);
         }
-        taken
+        Ok(())
+    }
+
+    /// Takes an order as `hand_in` does. Before it waits it sends what is outgoing. It counts toward letting what looks
+    /// read go, as orders do that are handed in together.
+    pub fn hand_in_one<W: Wait, O: Outgoing>(
+        &self,
+        rt: &W,
+        outgoing: &O,
+        seat: &mut Seat<L>,
+        order: &Order,
+        tolds: &mut Tolds,
+    ) -> Result<(), HandFault>
+        requires { HasRoom L.rules tolds.old }
+        ensures worker { seat.new.worker ≡ seat.old.worker }
+        ensures handed { OnOk result (IsHandedIn L.rules seat.old order.now tolds.new.told seat.new) }
+        ensures stored { OnOk result (seat.new.stored ≡ seat.new.handed) }
+        ensures room { tolds.new.room ≡ tolds.old.room }
+        ensures refused { OnErr result ((seat.new ≡ seat.old) × (tolds.new ≡ tolds.old)) }
+    {
+        let taken = {
+            let mut shared = self.shared.lock(rt);
+            shared.cool_if_idle(was_read(&self.looked), 1);
+            shared.hand_in(seat, order, tolds)
+        };
+        let stored = taken?;
+        if !stored {
+            outgoing.send(rt);
+            self.wait_until_stored(rt, seat);
+        }
+        Ok(())
     }
 
     /// Takes orders of the seat's worker one after another under one lock, each as `hand_in` does, and then publishes
@@ -203,7 +229,7 @@ impl<L: BoardName, R: Wait + Drop + Copy, J: Journal> Board<L, R, J> {
     }
 
     /// As `Seat::look`: it needs nothing of the board but what is published. Nothing is once nobody has looked for many
-    /// orders that were handed in together: then `warm` makes it anew, and it stays.
+    /// orders that `hand_in_one` and `hand_in_all` were given: then `warm` makes it anew, and it stays.
     pub fn look(&self, seat: &mut Seat<L>, order: &Order) -> Result<Result<Answer, Errno>, NoView>
         requires { only_reads order.now.op ≡ true }
         ensures same { KeepsHanded seat.old seat.new }

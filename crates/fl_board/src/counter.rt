@@ -45,6 +45,18 @@ impl<L: BoardName, P: Wait + Drop + Copy, J: Journal> Counter for Board<L, P, J>
         Board::hand_in_all(self, rt, outgoing, seat, orders, tolds, lists)
     }
 
+    fn hand_in_one<R: Wait, O: Outgoing>(
+        &self,
+        rt: &R,
+        outgoing: &O,
+        seat: &mut Seat<L>,
+        order: &Order,
+        tolds: &mut Tolds,
+    ) -> Result<(), HandFault> {
+        answered_last();
+        Board::hand_in_one(self, rt, outgoing, seat, order, tolds)
+    }
+
     fn look(&self, seat: &mut Seat<L>, order: &Order) -> Result<Result<Answer, Errno>, NoView> {
         Board::look(self, seat, order)
     }

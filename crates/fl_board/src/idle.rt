@@ -2,8 +2,8 @@
 
 use fl_core::Rules;
 
-/// How many orders were handed in together since somebody looked, and how many it takes until the copies that looks
-/// read are let go. It concerns only how fast a board is.
+/// How many orders `hand_in_one` and `hand_in_all` were given since somebody looked, and how many it takes until the
+/// copies that looks read are let go. It concerns only how fast a board is.
 ///
 /// It takes one order for each slot of the core. To update both copies for so many orders costs about what new copies
 /// cost. Copies that were made anew stay. So a board spends at most twice that on copies that nobody reads.

@@ -94,9 +94,32 @@ impl<L: BoardName, R: Wait + Drop + Copy, J: Journal> Shared<L, R, J> {
         })
     }
 
-    /// Takes an order of the seat's worker, counts it, and publishes it. It is refused while lines of orders before it
-    /// wait to be stored.
+    /// Takes an order of the seat's worker, counts it, and publishes it. It says whether its lines are stored, or need
+    /// not be: if so, they count as stored at the seat. It is refused while lines of orders before it wait to be stored.
     pub(crate) fn hand_in(
+        &mut self,
+        seat: &mut Seat<L>,
+        order: &Order,
+        tolds: &mut Tolds,
+    ) -> Result<bool, HandFault>
+        requires { HasRoom L.rules tolds.old }
+        ensures worker { seat.new.worker ≡ seat.old.worker }
+        ensures handed { OnOk result (IsHandedIn L.rules seat.old order.now tolds.new.told seat.new) }
+        ensures stored { IfOk result (λ stored. stored ≡ true → seat.new.stored ≡ seat.new.handed) }
+        ensures room { tolds.new.room ≡ tolds.old.room }
+        ensures all { OnOk result (history_of L.rules self.new.asks ≡ seat.new.handed) }
+        ensures refused { OnErr result ((seat.new ≡ seat.old) × (tolds.new ≡ tolds.old)
+            × (self.new.asks ≡ self.old.asks)) }
+    {
+        match self.take(seat, order, tolds) {
+            Ok(()) => Ok(self.store_if_due(seat)),
+            Err(fault) => Err(fault),
+        }
+    }
+
+    // Takes an order of the seat's worker, counts it, and publishes it. It is refused while lines of orders before it
+    // wait to be stored.
+    fn take(
         &mut self,
         seat: &mut Seat<L>,
         order: &Order,

@@ -1,8 +1,8 @@
 //! What a worker needs: a counter at which it hands orders in and looks, and a gate, which is called for each.
 
-ghost use Rattle.std.specs.Prelude.{◌≡◌, ◌<◌, ◌≤◌, ℕ, ◌+◌, true, length, List, Result, IfOk, OnOk, OnErr};
+ghost use Rattle.std.specs.Prelude.{◌≡◌, ◌<◌, ◌≤◌, ℕ, ◌+◌, [], ◌∷◌, true, length, List, Result, IfOk, OnOk, OnErr};
 ghost use mathlib.Core.List.{IsPrefix};
-ghost use Rattle.fl_counter.specs.Answered.{Answered, AreAnsweredLast, AreBehind, answered_by};
+ghost use Rattle.fl_counter.specs.Answered.{Answered, AreAnsweredLast, AreBehind, IsAnsweredLast, answered_by};
 ghost use Rattle.fl_history.specs.declared.history.Line.{Line};
 ghost use Rattle.fl_order.specs.Order.{only_reads};
 ghost use Rattle.fl_order.specs.declared.errno.Errno.{Errno};
@@ -68,6 +68,28 @@ pub trait Counter {
         ensures no_more { length lists.new.lists ≡ 0 → stored seat.new ≡ stored seat.old }
         ensures some { OnOk result (0 < length orders.now → 0 < length lists.new.lists) }
         ensures refused { OnErr result (length lists.new.lists < length orders.now) };
+
+    /// Takes one order, as `hand_in_all` takes an order that comes alone, and hands out its replies in `tolds`, in the
+    /// place of those before. If it is refused, it changes nothing.
+    fn hand_in_one<R: Wait, O: Outgoing>(
+        &self,
+        rt: &R,
+        outgoing: &O,
+        seat: &mut Self::Seat,
+        order: &Order,
+        tolds: &mut Tolds,
+    ) -> Result<(), HandFault>
+        requires { most_tolds ≤ tolds.old.room }
+        ensures room { tolds.new.room ≡ tolds.old.room }
+        ensures own { worker seat.new ≡ worker seat.old }
+        ensures count { OnOk result (count seat.new ≡ count seat.old + 1) }
+        ensures taken { OnOk result
+            (IsAnsweredLast (answered seat.old) order.now tolds.new.told (answered seat.new)) }
+        ensures behind { OnOk result (AreBehind (worker seat.old) (front seat.old) (order.now ∷ [])
+            (tolds.new.told ∷ []) (front seat.new)) }
+        ensures stored { OnOk result (answered_by (worker seat.new) (stored seat.new) ≡ answered seat.new) }
+        ensures refused { OnErr result ((count seat.new ≡ count seat.old) × (answered seat.new ≡ answered seat.old)
+            × (front seat.new ≡ front seat.old) × (stored seat.new ≡ stored seat.old)) };
 
     /// What an order that only reads is answered, without taking it: after a history that has all that was taken and
     /// shown through the seat before, and that is shown now. It waits for nobody.

@@ -1,10 +1,11 @@
 -- What became of orders that were handed in together.
 use Rattle.std.proofs.Common.{◌≡◌, ℕ, ◌+◌, ◌<◌, ◌≤◌, Bool, false, List, [], ◌∷◌, ◌++◌, map, take, length}
 use Rattle.std.proofs.Common.{refl, sym, ap, ◌∙◌, arith, subst}
-use Rattle.fl_counter.specs.Answered.{Answered, AreAnsweredLast, AreBehind, answered, answered_by, step_lines}
+use Rattle.fl_counter.specs.Answered.{Answered, AreAnsweredLast, AreBehind, IsAnsweredLast, answered, answered_by, step_lines}
 use Rattle.fl_counter.specs.Asked.{Orders}
 use Rattle.fl_history.specs.declared.history.Line.{Line}
 use Rattle.fl_log.specs.Growing.{Grows}
+use Rattle.fl_order.specs.declared.order.Order.{Order}
 use Rattle.fl_order.specs.declared.told.Told.{Told}
 use Rattle.fl_workers.proofs.Growing.{none_more, one_more, then_more}
 use Rattle.fl_workers.proofs.WorkedLemmas.{begins_as}
@@ -98,3 +99,14 @@ lists_handed shows orders lists p q lost worker more last behind stored no_more 
   sent = subst (λ owed. HasSent owed p.sent q.sent lost)
       (each_entry p.sent.author p.answered q.answered orders lists last) sent;
 }
+
+-- an order was handed in alone, and the replies to it were given or lost
+pub one_handed : (shows : Shows) (order : Order) (tolds gave : List Told) (p q : Standing) (lost : Bool)
+    → q.worker ≡ p.worker → q.count ≡ p.count + 1 → IsAnsweredLast p.answered order tolds q.answered
+    → AreBehind p.worker p.front (order ∷ []) (tolds ∷ []) q.front → AreStored q → gave ≡ tolds
+    → HasSent (entry p.sent.author (replies_to gave) ∷ []) p.sent q.sent lost
+    → HasWorked shows (order ∷ []) p q false lost
+one_handed shows order tolds gave p q lost worker more last behind stored same sent =
+    lists_handed shows (order ∷ []) (tolds ∷ []) p q lost worker more (q.answered, last, refl) behind (λ some. stored)
+    (λ none. absurd (omega (arith, none)))
+    (subst (λ l. HasSent (entry p.sent.author (replies_to l) ∷ []) p.sent q.sent lost) same sent)

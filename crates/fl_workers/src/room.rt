@@ -11,7 +11,7 @@ use std::alloc::Global;
 
 /// Room for the replies to a batch of orders.
 pub struct ReplyRoom {
-    /// For those to one order, while it is taken.
+    /// For those to one order: until they are given to be sent, if it was taken alone, and otherwise while it is taken.
     pub tolds: Tolds,
     /// For those to all orders that were taken together, a list for each.
     pub lists: ToldLists,

@@ -98,8 +98,9 @@ pub fn worker_loop<R: Wait, C: Counter, G: Gate, W: Write, N: WriterName>(
 }
 
 /// Handles orders at one seat, one after another: it looks for those that only read, and hands in all others, and those
-/// for which nothing could be shown. Orders between two that only read are handed in together, at most 16 at a time. It
-/// gives all replies to be sent; of an order that is refused, the reply that says so, if one is owed.
+/// for which nothing could be shown. Orders between two that only read are handed in together, at most 16 at a time, or
+/// alone if there is one. It gives all replies to be sent; of an order that is refused, the reply that says so, if one is
+/// owed.
 pub fn handle_all<R: Wait, C: Counter, G: Gate, W: Write, N: WriterName>(
     rt: &R,
     counter: &C,
@@ -157,7 +158,8 @@ fn handle_next<R: Wait, C: Counter, G: Gate, W: Write, N: WriterName>(
         result.1.refused result.1.lost }
 {
     let Post { seat, own } = post;
-    if let Some(told) = looked(rt, counter, seat, &orders[0]) {
+    let first = &orders[0];
+    if let Some(told) = looked(rt, counter, seat, first) {
         let lost = give(rt, gate, sender, own, &Response::One(told));
         let failures = Failures {
             refused: false,
@@ -165,7 +167,12 @@ fn handle_next<R: Wait, C: Counter, G: Gate, W: Write, N: WriterName>(
         };
         return (1, failures);
     }
-    let (together, _) = orders.split_at(until_one_reads(orders));
+    let many = until_one_reads(orders);
+    if many == 1 {
+        let failures = hand_in_one(rt, counter, gate, sender, post, replies, first);
+        return (1, failures);
+    }
+    let (together, _) = orders.split_at(many);
     hand_in(rt, counter, gate, sender, post, replies, together)
 }
 
@@ -180,6 +187,38 @@ fn until_one_reads(orders: &[Job]) -> usize
         }
     }
     orders.len()
+}
+
+// Hands in an order that comes alone. What is owed for it is given to be sent.
+fn hand_in_one<R: Wait, C: Counter, G: Gate, W: Write, N: WriterName>(
+    rt: &R,
+    counter: &C,
+    gate: &G,
+    sender: &Mutex<SharedSender<'_, W, N>>,
+    post: &mut Post<C::Seat, N>,
+    replies: &mut ReplyRoom,
+    order: &Order,
+) -> Failures
+    requires { HasRoomFor C.most_tolds replies.old }
+    ensures room { HasRoomFor C.most_tolds replies.new }
+    ensures did { HasWorked C.shows (order.now ∷ [])
+        (standing C.worker C.count C.answered C.front C.stored post.old.seat post.old.own)
+        (standing C.worker C.count C.answered C.front C.stored post.new.seat post.new.own)
+        result.refused result.lost }
+{
+    let Post { seat, own } = post;
+    let tolds = &mut replies.tolds;
+    let result = counter.hand_in_one(rt, &Collected { sender }, seat, order, tolds);
+    match result {
+        Ok(()) => {
+            let lost = give(rt, gate, sender, own, &Response::Replies(tolds.as_slice()));
+            Failures {
+                refused: false,
+                lost,
+            }
+        }
+        Err(_) => refuse(rt, gate, sender, own, order),
+    }
 }
 
 // Hands in these orders together, until one is refused. What is owed for each is given to be sent. It says how many it

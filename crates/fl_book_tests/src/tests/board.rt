@@ -4,6 +4,7 @@ ghost use Rattle.std.specs.Prelude.{◌≡◌, ◌<◌, ◌≤◌, true};
 ghost use Rattle.fl_counter.specs.Tolds.{HasRoom};
 ghost use Rattle.fl_order.specs.Order.{only_reads};
 
+mod alone;
 mod batches;
 mod looks;
 mod threaded;

@@ -198,6 +198,20 @@ impl Counter for Tally {
         Ok(())
     }
 
+    fn hand_in_one<R: Wait, O: Outgoing>(
+        &self,
+        _rt: &R,
+        _outgoing: &O,
+        seat: &mut Seat,
+        order: &Order,
+        tolds: &mut Tolds,
+    ) -> Result<(), HandFault> {
+        if seat.batches.push(1).is_err() {
+            return Err(HandFault::NoMemory);
+        }
+        seat.hand_in(self.refuses, order, tolds)
+    }
+
     #[tactic(auto, using(crate::proofs::SeatLemmas::begin_themselves))]
     fn look(&self, seat: &mut Seat, order: &Order) -> Result<Result<Answer, Errno>, NoView> {
         if !self.shows || seat.looks.push(order.unique).is_err() {

@@ -3,6 +3,7 @@
 ghost use Rattle.std.specs.Prelude.{◌≡◌};
 ghost use Rattle.fl_counter.specs.Tolds.{HasRoom};
 
+use super::alone::take_alone;
 use super::batches::handed_in;
 use super::{closed, create, has_lines, new_tolds, opened, order, take, upto};
 use fl_book::{Ask, Board, BoardName, FreshLog, History, Rules, Seat};
@@ -111,7 +112,24 @@ fn sixteen<L: BoardName, R: Wait + Abort>(
     handed_in(rt, alloc, rules, board, seats, &batch, &[1; 16]);
 }
 
-// A board takes sixteen orders, 32 after a look, and as many once copies were made anew.
+// The board takes four orders, one by one.
+fn four_alone<L: BoardName, R: Wait + Abort>(
+    rt: &R,
+    alloc: Global,
+    rules: Rules,
+    board: &Board<L, &R>,
+    seats: &mut [Seat<L>],
+)
+    requires { rules ≡ L.rules }
+{
+    let mut tolds = new_tolds(rt, alloc, rules);
+    let seat = seats.first_mut().expect(rt, "a seat");
+    for _ in 0..4 {
+        take_alone(rt, board, seat, &order(1, 1, Op::Getattr), &mut tolds);
+    }
+}
+
+// A board takes sixteen orders, 20 after a look, and 32 once copies were made anew.
 fn idle<L: BoardName, R: Wait + Abort>(
     rt: &R,
     alloc: Global,
@@ -128,7 +146,7 @@ fn idle<L: BoardName, R: Wait + Abort>(
     sixteen(rt, alloc, rules, &board, &mut seats);
     assert!(rt; finds(&board, &mut seats));
     sixteen(rt, alloc, rules, &board, &mut seats);
-    sixteen(rt, alloc, rules, &board, &mut seats);
+    four_alone(rt, alloc, rules, &board, &mut seats);
     assert!(rt; !finds(&board, &mut seats));
     warms(rt, &board, &mut seats);
     sixteen(rt, alloc, rules, &board, &mut seats);
@@ -144,5 +162,5 @@ fn looks_find_nothing_after_many_orders_until_copies_are_made_anew(rt: HostRunti
     let rules = limited.expect(&rt, "rules").with_files(5, 5);
     let rules = rules.expect(&rt, "rules");
     let history = idle::<Brand, _>(&rt, rt.alloc(), Blank::new(1), FreshLog::new(), rules);
-    has_lines(&rt, &history, 160);
+    has_lines(&rt, &history, 136);
 }

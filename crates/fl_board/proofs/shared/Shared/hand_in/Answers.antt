@@ -1,8 +1,6 @@
-use Rattle.fl_board.proofs.Prefixes.{of_another}
+use Rattle.fl_board.proofs.Batches.{stored_or_not}
 use Rattle.fl_board.proofs.shared.Shared.hand_in.Goals as goal
 
-pub invariant_of-self : goal.invariant_of-self
-invariant_of-self g c = (
-  c.publish.ensures.shown,
-  rw c.publish.ensures.stored (of_another _ _ _ c.self.invariant.1 c.take-taken.ensures.stored),
-)
+pub returns-in-Ok-clause-handed : goal.returns-in-Ok-clause-handed
+returns-in-Ok-clause-handed g c =
+    stored_or_not g.L.BoardName.rules _ _ _ _ _ _ c.store_if_due.ensures.noted c.store_if_due.ensures.waits c.in-Ok.ensures.handed
