@@ -4,7 +4,7 @@ ghost use Rattle.std.specs.Prelude.{◌≡◌, ℕ, List, ◌≤◌, ◌<◌, �
 ghost use Rattle.std.specs.Io.KnownBytes.{Consumes, IsAtEnd, Keeps};
 ghost use Rattle.fl_wire.specs.Cut.{first_step};
 ghost use Rattle.fl_wire.specs.Frame.{IsMessage};
-ghost use Rattle.fl_transport.specs.Inbox.{work, IsUnread, ReadsOn, Takes, IsEnd};
+ghost use Rattle.fl_transport.specs.Inbox.{work, IsUnread, ReadsAgain, ReadsOn, Takes, IsEnd};
 
 use crate::fault::Fault;
 use fl_order::NoMemory;
@@ -20,8 +20,10 @@ const MESSAGE_BYTES: usize = 8192;
 /// The result of a read.
 #[derive(Clone, Copy, Debug, PartialEq, Eq)]
 pub enum Filled {
-    /// Bytes came, or the read was interrupted.
+    /// Bytes came.
     More,
+    /// The read was interrupted: none came.
+    Interrupted,
     /// No more come: the session ends, with this fault of its reader, if any.
     End(Option<Fault>),
 }
@@ -99,9 +101,10 @@ impl Inbox {
     pub fn fill<R: Read>(&mut self, r: &mut R) -> Filled
         requires { first_step self.old.rest ≡ Step.More }
         ensures bounded { length self.new.rest ≤ 8192 }
-        ensures more { result ≡ Filled.More → length self.old.rest ≤ length self.new.rest }
-        ensures reads { result ≡ Filled.More → self.new.reads + 1 ≡ self.old.reads }
-        ensures less { result ≡ Filled.More → work self.new < work self.old }
+        ensures more { result ≡ Filled.More → length self.old.rest < length self.new.rest }
+        ensures interrupted { result ≡ Filled.Interrupted → self.new.rest ≡ self.old.rest }
+        ensures reads { ReadsAgain result → self.new.reads + 1 ≡ self.old.reads }
+        ensures less { ReadsAgain result → work self.new < work self.old }
         ensures read { ReadsOn (R.remaining r.old) (R.remaining r.new) self.old.rest self.new.rest }
         ensures end { IsEnd result self.new.rest (R.remaining r.new) }
     {
@@ -119,7 +122,7 @@ impl Inbox {
                 self.filled += n;
                 Filled::More
             }
-            Err(error) if error.kind() == ErrorKind::Interrupted => Filled::More,
+            Err(error) if error.kind() == ErrorKind::Interrupted => Filled::Interrupted,
             Err(_) => Filled::End(Some(Fault::Read)),
         }
     }

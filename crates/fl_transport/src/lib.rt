@@ -2,8 +2,9 @@
 //! go out. No lock is known here.
 //!
 //! Contracts see the bytes that a reader has left and those that a writer holds, and no failure of either. Only tests
-//! show that a read or a write failed if that is reported, and that none is tried again. Contracts let through:
-//! - an `Outbox::send` that is broken at once, and an `Inbox::fill` that tells a failed read though none failed;
+//! show that a read or a write failed, or was interrupted, if that is reported. Contracts let through:
+//! - an `Outbox::send` that is broken at once, and an `Inbox::fill` that tells a failed or interrupted read though there
+//!   was none;
 //! - a `ReplyBuffer` with room for one reply alone, so that replies go out one by one.
 //! `tests/serve/sessions.py`, `tests/serve/failing.py` and `fl_stream_tests` (an outbox alone) refuse these.
 #![tactic(auto)]
