@@ -46,7 +46,7 @@ _lockd() {
     else
         case $command in
             help) words='script check locks state bytes serve drive' ;;
-            serve) words="--workers --trace --resume --rotate --keep --trace-full $rules --help" ;;
+            serve) words="--workers --trace --resume --allow-gap --rotate --keep --trace-full $rules --help" ;;
             check) words="--quiet --cut $rules --help" ;;
             locks) words="--at --file --json $rules --help" ;;
             script | bytes | state) words="$rules --help" ;;

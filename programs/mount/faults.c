@@ -115,6 +115,6 @@ bool faults_of_trace(char *said, size_t room)
     if (faults.failed && faults.why[0])
         snprintf(said, room, ": %s lacks lines, since it couldn't be written: %s", faults.trace, faults.why);
     else if (faults.failed)
-        snprintf(said, room, ": %s lacks lines, or is gone", faults.trace);
+        snprintf(said, room, ": %s lacks lines, is spoilt, or is gone", faults.trace);
     return faults.failed;
 }

@@ -215,7 +215,7 @@ static bool has_trace(void)
     enum found found = trace_look(&mount.server.trace);
     const char *then = "";
     if (mount.options.resume && found == FOUND_NO_PIECE)
-        then = ": if the server ends soon, no other one goes on, and locks are lost";
+        then = ": if the server ends soon, a call of that moment may be done twice";
     else if (mount.options.resume && found != FOUND_WHOLE)
         then = ": if the server ends, no other one goes on, and locks are lost";
     if (found != told)

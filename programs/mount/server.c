@@ -126,6 +126,8 @@ static void put_options(const char *words[], size_t count, const struct server *
     if (options->resume) {
         words[count++] = "--resume";
         words[count++] = server->trace.path;
+        // All replies that a server sent are read before anything is sent again: so little can be taken twice.
+        words[count++] = "--allow-gap";
         put_option(words, &count, "--rotate", options->rotate);
         put_option(words, &count, "--keep", options->keep);
     } else {
@@ -336,7 +338,7 @@ static bool comes_again(const struct server *server, const struct options *optio
 static enum begun begin_again(struct server *server, const struct options *options, bool (*stops)(void))
 {
     enum found found = trace_look(&server->trace);
-    // Whether the piece before is needed, the server knows.
+    // Without the piece before, it goes on behind a gap.
     if (found != FOUND_WHOLE && found != FOUND_NO_PIECE) {
         say_end(server, "");
         say("%s %s: another server wouldn't know all locks", server->trace.path, trace_became(found));
@@ -361,8 +363,6 @@ static void say_no_other(const struct server *server, enum begun begun)
         say_end(server, " before it listened");
     if (begun == ENDED)
         say("%s can't go on with %s", server->program, server->trace.path);
-    if (begun == ENDED && server->trace.found == FOUND_NO_PIECE)
-        say("%s %s", server->trace.path, trace_became(FOUND_NO_PIECE));
 }
 
 int server_restart(struct server *server, const struct options *options, bool (*stops)(void))

@@ -1,5 +1,5 @@
 // The file of the trace, and the pieces that stand before it. `lockd serve --rotate` begins a new piece now and then, and each server one
-// behind a FILE that was cut: it becomes FILE itself, and the old one FILE.N, with a greater number than all before. Its head tells how many
+// behind a spoilt FILE: it becomes FILE itself, and the old one FILE.N, with a greater number than all before. Its head tells how many
 // orders and replies stand before it. A FILE that is gone the server puts back.
 #include "mount.h"
 

@@ -91,12 +91,13 @@ fn run<T: Threads + Wait + Net + Files + Sync>(
             socket,
             file,
             is_new,
+            allows_gap,
             when_stuck,
             rotation,
             rules,
         } => {
             let when = when_unwritten(*when_stuck);
-            let how = resuming(file.as_str(), *is_new, when, rotation);
+            let how = resuming(file.as_str(), *is_new, *allows_gap, when, rotation);
             resume(host, socket.as_str(), how, *rules)
         }
         Asked::Drive(socket) => drive(host, socket.as_str()),

@@ -215,7 +215,7 @@ fn opened<'a, F: Write, O: Observer>(
     }
 }
 
-// Ends a server with this status. If its trace's file was cut, or can't be put back at its path, that is told.
+// Ends a server with this status. If its trace's file was spoilt, or can't be put back at its path, that is told.
 fn end_traced<F: Write>(
     written: Option<Written<'_>>,
     status: Status,
@@ -294,6 +294,7 @@ fn when_full(trace: &Trace) -> WhenWriterFails
 pub(crate) fn resuming<'a>(
     name: &'a str,
     is_new: bool,
+    allows_gap: bool,
     when: WhenUnwritten,
     said: &Option<lockd_cli::Rotation>,
 ) -> Resuming<'a> {
@@ -302,6 +303,7 @@ pub(crate) fn resuming<'a>(
         is_new,
         when,
         rotation: said.map(rotation_of),
+        allows_gap,
     }
 }
 

@@ -155,11 +155,13 @@ SaysRotation found (Some rotation) =
     (first_value found (codes "rotate") ≢ None) × IsDueAt (one_text found (codes "rotate")) rotation.bytes
     × AreKept (one_text found (codes "keep")) rotation.keep
 
--- an option of pieces lacks the one that it needs: `--rotate` lacks a file, or `--keep` lacks `--rotate`
+-- An option of pieces lacks the one that it needs: `--rotate` lacks a file, `--keep` lacks `--rotate`, or `--allow-gap`
+-- lacks `--resume`.
 abbrev pub MisfitsPieces : Found → Type 0
 MisfitsPieces found =
     ((first_value found (codes "rotate") ≢ None) × (first_value found (codes "resume") ≡ None) × NamesNoFile found)
     ⊎ ((first_value found (codes "keep") ≢ None) × (first_value found (codes "rotate") ≡ None))
+    ⊎ (IsFlagOf (one_text found (codes "allow-gap")) true × (first_value found (codes "resume") ≡ None))
 
 -- several workers are said of a trace in pieces
 abbrev pub MisfitsWorkers : Found → Type 0
@@ -198,8 +200,10 @@ Ask found (asked.Serve socket workers trace rules) =
     (string_bytes socket ≡ socket_said found)
     × IsNumberOf (one_text found (codes "workers")) AllowsWorkers 4 workers
     × SaysTrace found trace × SayRules found rules × (first_value found (codes "resume") ≡ None) × SaysNoPieces found
-Ask found (asked.Resume socket file new stuck rotation rules) =
-    (string_bytes socket ≡ socket_said found) × NamesFile found new (string_bytes file) × SaysWhenStuck found stuck
+    × IsFlagOf (one_text found (codes "allow-gap")) false
+Ask found (asked.Resume socket file new gap stuck rotation rules) =
+    (string_bytes socket ≡ socket_said found) × NamesFile found new (string_bytes file)
+    × IsFlagOf (one_text found (codes "allow-gap")) gap × SaysWhenStuck found stuck
     × SaysRotation found rotation × SayOwnRules found rules
 Ask found (asked.Drive socket) = string_bytes socket ≡ socket_said found
 Ask found asked.Version = ⊥
@@ -212,7 +216,7 @@ word_of (asked.State rules) = codes "state"
 word_of (asked.Check pieces quiet cut rules) = codes "check"
 word_of (asked.Locks at file json rules) = codes "locks"
 word_of (asked.Serve socket workers trace rules) = codes "serve"
-word_of (asked.Resume socket file new stuck rotation rules) = codes "serve"
+word_of (asked.Resume socket file new gap stuck rotation rules) = codes "serve"
 word_of (asked.Drive socket) = codes "drive"
 word_of asked.Version = codes "--version"
 

@@ -151,6 +151,12 @@ const SERVE: &[Argument] = &[
         conflicts_with: &["trace", "workers"],
     },
     Argument {
+        name: "allow-gap",
+        help: "With --resume FILE: goes on also if pieces before FILE that are wanted, to know requests that are sent again, are missing or don't fit; such a request may be taken twice",
+        kind: Kind::Flag(None),
+        conflicts_with: &[],
+    },
+    Argument {
         name: "rotate",
         help: "With --resume FILE, or with --trace FILE and one worker: begins a new piece of the trace in FILE once that has so many bytes, and 65536 orders and replies behind its head; older pieces are FILE.1, FILE.2, and so on",
         kind: Kind::Between("BYTES", 1, u32::MAX as i64),

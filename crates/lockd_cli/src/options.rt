@@ -79,6 +79,8 @@ pub enum Asked {
         file: String,
         /// Whether the file is made, and none may be there: one with no lines, whose trace goes on in new pieces.
         is_new: bool,
+        /// Whether it goes on also if pieces before the file that are wanted are missing, or don't fit.
+        allows_gap: bool,
         /// What becomes of the session while the file can't be written.
         when_stuck: WhenStuck,
         /// When it goes on in a new piece, and how many stay; never, if that isn't said.

@@ -1,9 +1,9 @@
 //! What the options of `serve` ask for.
 
-ghost use Rattle.std.specs.Prelude.{◌≡◌, ◌≢◌, ◌≤◌, ℕ, None, Some, IfErr, IfOk, OnOk, codes};
-ghost use Rattle.clap.specs.Matches.{found_of};
+ghost use Rattle.std.specs.Prelude.{◌≡◌, ◌≢◌, ◌≤◌, ℕ, None, Some, IfErr, IfOk, OnOk, codes, false};
+ghost use Rattle.clap.specs.Matches.{found_of, one_text};
 ghost use Rattle.clap.specs.Words.{first_value};
-ghost use Rattle.lockd_cli.specs.Inside.{Ask, IsNotForResume, IsNotForTrace, Misfits, MisfitsPieces, MisfitsTrace};
+ghost use Rattle.lockd_cli.specs.Inside.{Ask, IsFlagOf, IsNotForResume, IsNotForTrace, Misfits, MisfitsPieces, MisfitsTrace};
 ghost use Rattle.lockd_cli.specs.Inside.{MisfitsWorkers, SaysNoFull, SaysNoPieces, SaysRotation, SaysTrace};
 ghost use Rattle.lockd_cli.specs.Inside.{SaysWhenFull, SaysWhenStuck, word_of};
 ghost use Rattle.lockd_cli.specs.Numbers.{HasWorkers};
@@ -34,6 +34,7 @@ pub(crate) fn serve_of(alloc: Global, options: &ArgMatches<'_>) -> Result<Asked,
 {
     match options.get_str("resume") {
         Some(file) => resume_of(alloc, options, file),
+        None if options.get_flag("allow-gap") => Err(UsageError::Rotate),
         None => begin_of(alloc, options),
     }
 }
@@ -56,6 +57,7 @@ fn resume_of(alloc: Global, options: &ArgMatches<'_>, file: &str) -> Result<Aske
         socket,
         file,
         is_new: false,
+        allows_gap: options.get_flag("allow-gap"),
         when_stuck,
         rotation,
         rules: said_rules_of(options),
@@ -64,7 +66,8 @@ fn resume_of(alloc: Global, options: &ArgMatches<'_>, file: &str) -> Result<Aske
 
 // What the options of `serve` ask for if they name none.
 fn begin_of(alloc: Global, options: &ArgMatches<'_>) -> Result<Asked, UsageError>
-    requires { first_value (found_of options.now) (codes "resume") ≡ None }
+    requires resume { first_value (found_of options.now) (codes "resume") ≡ None }
+    requires gap { IsFlagOf (one_text (found_of options.now) (codes "allow-gap")) false }
     ensures workers { IfOk result HasWorkers }
     ensures serve { IfOk result (λ asked. word_of asked ≡ codes "serve") }
     ensures said { IfOk result (Ask (found_of options.now)) }
@@ -92,6 +95,7 @@ fn begin_pieces(
     rotation: Rotation,
 ) -> Result<Asked, UsageError>
     requires resume { first_value (found_of options.now) (codes "resume") ≡ None }
+    requires gap { IsFlagOf (one_text (found_of options.now) (codes "allow-gap")) false }
     requires rotation { SaysRotation (found_of options.now) (Some rotation) }
     requires file { first_value (found_of options.now) (codes "trace") ≡ Some file.now }
     requires named { file.now ≢ codes "none" }
@@ -110,6 +114,7 @@ fn begin_pieces(
         socket,
         file,
         is_new: true,
+        allows_gap: false,
         when_stuck,
         rotation: Some(rotation),
         rules: said_rules_of(options),
@@ -119,6 +124,7 @@ fn begin_pieces(
 // What the options of `serve` ask for if the trace is in one piece; four workers, if no number of them is there.
 fn begin_whole(alloc: Global, options: &ArgMatches<'_>) -> Result<Asked, UsageError>
     requires resume { first_value (found_of options.now) (codes "resume") ≡ None }
+    requires gap { IsFlagOf (one_text (found_of options.now) (codes "allow-gap")) false }
     requires whole { SaysNoPieces (found_of options.now) }
     ensures workers { IfOk result HasWorkers }
     ensures serve { IfOk result (λ asked. word_of asked ≡ codes "serve") }

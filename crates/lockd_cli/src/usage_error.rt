@@ -18,7 +18,7 @@ pub enum UsageError {
     TraceFull,
     #[error("error: '--trace-full refuse' takes two workers or more: while one waits to write, another refuses orders\n\nFor more information, try '--help'.\n")]
     OneWorker,
-    #[error("error: '--rotate' needs '--resume FILE' or '--trace FILE', and '--keep' needs '--rotate BYTES'\n\nFor more information, try '--help'.\n")]
+    #[error("error: '--rotate' needs '--resume FILE' or '--trace FILE', '--keep' needs '--rotate BYTES', and '--allow-gap' needs '--resume FILE'\n\nFor more information, try '--help'.\n")]
     Rotate,
     #[error("error: '--rotate' takes one worker: with several, the head of a new piece would be told while others take orders\n\nFor more information, try '--help'.\n")]
     ManyWorkers,

@@ -27,7 +27,7 @@ pub trait Observer {
     /// There is no file for the trace. `cannot trace` was told.
     fn untraced(&mut self, why: Untraced);
 
-    /// The trace's file was cut, or is gone at the end. `trace failed` was told.
+    /// The trace's file was cut or written to by another program, or is gone at the end. `trace failed` was told.
     fn lost(&mut self);
 }
 
@@ -64,6 +64,8 @@ pub enum Untraced {
     Headed(u64),
     /// It has no lines, though the piece before it of this number is there: a server would begin with nothing.
     Emptied(u64),
+    /// It has no lines, though FILE.new is there, a piece or a copy that a killed server was writing.
+    Unfinished,
     /// What is there doesn't fit the rules that were said, since there are more of these than they allow.
     Misfit(Misfit),
     /// No new piece could be begun by the rules that were said, or the last one lacks replies and can't be written.

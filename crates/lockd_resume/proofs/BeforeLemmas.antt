@@ -1,7 +1,8 @@
 -- What is heard of the pieces before one in which a server goes on.
-use Rattle.std.proofs.Common.{◌≡◌, ◌∙◌, ◌+◌, ◌++◌, ◌∷◌, ℕ, List, [], Option, None, Some, ap, refl, subst, sym, length, append-nil, append_assoc}
+use Rattle.std.proofs.Common.{◌≡◌, ◌⊎◌, ◌∙◌, ◌+◌, ◌++◌, ◌∷◌, ℕ, Bool, false, true, List, [], Option, None, Some, Result, Ok, Err}
+use Rattle.std.proofs.Common.{ap, inr, refl, subst, sym, length, append-nil, append_assoc}
 use Rattle.std.specs.Io.KnownBytes.{Consumes}
-use Rattle.std.specs.Prelude.{IfSome, unwrap_or}
+use Rattle.std.specs.Prelude.{IfErr, IfOk, IfSome, unwrap_or}
 use Rattle.std.specs.Fmt.{option_append}
 use Rattle.fl_audit.specs.First.{AreWholeLines, IsSoOfAll}
 use Rattle.fl_audit.specs.Opening.{AreNamed}
@@ -11,6 +12,8 @@ use Rattle.fl_history.specs.Recent.{spoken}
 use Rattle.fl_history.specs.declared.history.Line.{Line}
 use Rattle.fl_history.specs.declared.place.Place.{Place}
 use Rattle.fl_waiting.specs.declared.rules.Rules.{Rules}
+use Rattle.lockd_faults.specs.declared.fault.CommandFault.{CommandFault}
+use Rattle.lockd_faults.specs.declared.fault.CommandFault.TheVariants as command
 use Rattle.lockd_resume.specs.Heard.{AreEnough, AreHeard, AreItsRules, Earlier, IsHeardBefore, IsNearest, LacksBefore, Text}
 use Rattle.lockd_resume.specs.Inside.{StandsBefore}
 use Rattle.lockd_resume.specs.declared.before.LastLines.{LastLines}
@@ -104,6 +107,19 @@ pub more_lines : (text : Text) (place : Place) (last more : LastLines) (here : L
 more_lines text place last more here all stands =
     stands.recent ∙ ap (λ l. stands.lines ++ l) all ∙ sym (append_assoc stands.lines last.past.items here)
     ∙ ap (λ l. l ++ here) (sym stands.past)
+
+-- what is so of the last lines is so of them behind a gap
+pub gap_says : (r : Result LastLines CommandFault) (last now : LastLines) (allows : Bool) (Says : LastLines → Type 0)
+    → IfOk r (λ it. (it ≡ now) × (allows ≡ true)) → now ≡ last → Says last → IfOk r Says
+gap_says (Ok it) last now allows Says said same so = subst Says (sym (said.0 ∙ same)) so
+gap_says (Err fault) last now allows Says said same so = tt
+
+-- the fault of a gap that isn't allowed
+pub gap_lacks : (r : Result LastLines CommandFault) (allows : Bool) (Lacks : Type 0)
+    → IfErr r (λ fault. (fault ≡ command.Trace) × (allows ≡ false)) → Lacks
+    → IfErr r (λ fault. (fault ≡ command.NoMemory) ⊎ ((fault ≡ command.Trace) × Lacks))
+gap_lacks (Ok it) allows Lacks said lacks = tt
+gap_lacks (Err fault) allows Lacks said lacks = inr (said.0, lacks)
 
 module _ (rules : Rules) (left now : Option (List Text)) (here : List Line) (place : Place) (last : LastLines)
     (there : place ≡ place_of here) (all : last.recent ≡ last.past.items ++ here)

@@ -1,7 +1,7 @@
 //! The last lines before a piece in which a server goes on.
 
-ghost use Rattle.std.specs.Prelude.{◌≡◌, ◌⊎◌, ◌↔◌, ◌+◌, ◌++◌, ◌<◌, ℕ, List, Option, IfErr, IfOk, IfSome, IsTrue};
-ghost use Rattle.std.specs.Prelude.{length, option_map};
+ghost use Rattle.std.specs.Prelude.{◌≡◌, ◌⊎◌, ◌↔◌, ◌+◌, ◌++◌, ◌<◌, ℕ, List, Option, IfErr, IfOk, IfSome, IsTrue, Ok};
+ghost use Rattle.std.specs.Prelude.{false, length, option_map, true};
 ghost use Rattle.fl_desk.specs.Legal.{IsLegal};
 ghost use Rattle.fl_history.specs.Place.{place_of};
 ghost use Rattle.fl_history.specs.Recent.{spoken};
@@ -60,19 +60,21 @@ pub(crate) struct LastLines {
 
 /// What stands before the lines of a piece of these rules, which end at this place: the lines of as many pieces as are
 /// wanted to know messages that are sent again; none, if those of this piece are enough. The last lines are those with
-/// these behind them. The fault is `Trace`, if they aren't enough, and the next piece is missing, isn't legal under its
-/// rules, or ends elsewhere than those behind it begin.
+/// these behind them. They aren't enough, if the next piece is missing, isn't legal under its rules, or ends elsewhere
+/// than those behind it begin: then the fault is `Trace`, unless a gap is allowed. A piece that ends further on is none:
+/// behind it these lines aren't the last.
 pub(crate) fn with_before<P: PiecesBefore>(
     alloc: Global,
     rules: Rules,
     before: &mut P,
     here: Recent,
     place: Place,
+    allows_gap: bool,
 ) -> Result<LastLines, CommandFault>
     requires place { place ≡ place_of here }
     ensures recent { IfOk result (λ all. all.recent ≡ all.past.items ++ here) }
     ensures heard { IfOk result (λ all. IsHeardBefore rules (P.left before.old) here all.past.items) }
-    ensures enough { IfOk result (λ all. AreEnough place all.recent) }
+    ensures enough { IfOk result (λ all. (allows_gap ≡ true) ⊎ AreEnough place all.recent) }
     ensures fault { IfErr result (λ fault. (fault ≡ CommandFault.NoMemory)
         ⊎ ((fault ≡ CommandFault.Trace) × LacksBefore rules (P.left before.old) here)) }
 {
@@ -83,19 +85,32 @@ pub(crate) fn with_before<P: PiecesBefore>(
     };
     'pieces: while !are_enough(&last.recent, place) {
         let Some(piece) = before.next() else {
-            return Err(CommandFault::Trace);
+            return with_gap(last, allows_gap);
         };
-        match with_piece(alloc, piece, last, place) {
-            Ok(Some(more)) => last = more,
-            Ok(None) => return Err(CommandFault::Trace),
+        match add_piece(alloc, piece, &mut last, place) {
+            Ok(Fit::Before) => {}
+            Ok(Fit::Apart) => return with_gap(last, allows_gap),
+            Ok(Fit::Later) => return Err(CommandFault::Trace),
             Err(NoMemory) => return Err(CommandFault::NoMemory),
         }
     }
     Ok(last)
 }
 
-// Whether these lines up to this place are enough.
-fn are_enough(recent: &Recent, place: Place) -> bool
+// The last lines, if a gap before them is allowed.
+fn with_gap(last: LastLines, allows_gap: bool) -> Result<LastLines, CommandFault>
+    ensures same { IfOk result (λ it. (it ≡ last) × (allows_gap ≡ true)) }
+    ensures fault { IfErr result (λ fault. (fault ≡ CommandFault.Trace) × (allows_gap ≡ false)) }
+{
+    if allows_gap {
+        Ok(last)
+    } else {
+        Err(CommandFault::Trace)
+    }
+}
+
+/// Whether these lines up to this place are enough to know messages that are sent again.
+pub(crate) fn are_enough(recent: &Recent, place: Place) -> bool
     ensures { IsTrue result ↔ AreEnough place recent.now }
 {
     let kept = recent.kept() as u64;
@@ -105,21 +120,32 @@ fn are_enough(recent: &Recent, place: Place) -> bool
 // So many orders and replies are known of those of messages that are sent again.
 const MOST_KEPT: u64 = 65_536;
 
-// The lines of one more piece, and these behind them, which end at this place; none, if the piece can't be read, isn't
-// legal by the rules that its head names, or else by those of the piece behind it, or ends elsewhere than these begin.
-fn with_piece<B: Read + Drop>(
+// How a piece stands to lines behind it.
+enum Fit {
+    // They go on from its end.
+    Before,
+    // They begin further on, or it can't be read or isn't legal.
+    Apart,
+    // It ends behind the place where they begin.
+    Later,
+}
+
+// The lines of one more piece get these behind them, which end at this place, if it stands before them: it is legal by
+// the rules that its head names, or else by those of the piece behind it, and ends where these begin.
+fn add_piece<B: Read + Drop>(
     alloc: Global,
     piece: B,
-    last: LastLines,
+    last: &mut LastLines,
     place: Place,
-) -> Result<Option<LastLines>, NoMemory>
-    requires { length (spoken last.recent) < 65536 }
-    ensures { IfOk result (λ it. IfSome it (λ more. StandsBefore (B.remaining piece) place last more)) }
+) -> Result<Fit, NoMemory>
+    requires { length (spoken last.old.recent) < 65536 }
+    ensures added { result ≡ Ok Fit.Before → StandsBefore (B.remaining piece) place last.old last.new }
+    ensures apart { result ≡ Ok Fit.Apart → last.new ≡ last.old }
 {
     let mut piece = piece;
     let mut room = [0; LINE_ROOM];
     let Ok(opening) = read_opening(&mut piece, &mut room) else {
-        return Ok(None);
+        return Ok(Fit::Apart);
     };
     let rules = opening.rules.unwrap_or(last.rules);
     let mut text = room[..opening.bytes].chain(piece);
@@ -127,7 +153,7 @@ fn with_piece<B: Read + Drop>(
     let heard = match hear_cut(alloc, rules, &mut text, &mut details) {
         Ok(heard) => heard,
         Err(AuditFault::NoMemory) => return Err(NoMemory),
-        Err(AuditFault::BadLine(_) | AuditFault::Read) => return Ok(None),
+        Err(AuditFault::BadLine(_) | AuditFault::Read) => return Ok(Fit::Apart),
     };
     let Heard {
         judge,
@@ -135,18 +161,22 @@ fn with_piece<B: Read + Drop>(
         ..
     } = heard;
     if !ends_before(&judge, &last.recent, place) {
-        return Ok(None);
+        if ends_later(&judge, &last.recent, place) {
+            return Ok(Fit::Later);
+        }
+        return Ok(Fit::Apart);
     }
     let Some(resumed) = judge.into_resumed() else {
-        return Ok(None);
+        return Ok(Fit::Apart);
     };
     recent.extend(&last.recent);
     let past = resumed.past.followed_by(&last.past);
-    Ok(Some(LastLines {
+    *last = LastLines {
         rules,
         past,
         recent,
-    }))
+    };
+    Ok(Fit::Before)
 }
 
 // Whether a judge's lines are legal, and end where these begin, which end at this place.
@@ -157,4 +187,10 @@ fn ends_before(judge: &Judge, here: &Recent, place: Place) -> bool
 {
     let own = here.kept() as u64;
     judge.verdict() == Verdict::Legal && place.lines.checked_sub(own) == Some(judge.place().lines)
+}
+
+// Whether a judge's lines are legal, and end behind the place where these begin, which end at this place.
+fn ends_later(judge: &Judge, here: &Recent, place: Place) -> bool {
+    let begin = place.lines.saturating_sub(here.kept() as u64);
+    judge.verdict() == Verdict::Legal && judge.place().lines > begin
 }

@@ -21,6 +21,7 @@
 //! - a `PieceLines` that is due too early, or never; a `resume_on` that gives its pieces another rotation;
 //! - a `head_rules` that names others, or none; a piece that is found illegal, or not to fit, though it is and does;
 //! - a change of rules that loses the replies that the last piece lacks; one that is refused, or isn't;
+//! - a server that reads no piece before, since it may go on behind a gap, or says wrongly whether it does;
 //! - a server that tells its observer something else than what it does, or nothing, or another reason.
 //!
 //! These tests refuse most of them:

@@ -1,6 +1,6 @@
 //! `lockd serve --resume`: a session behind the lines of a trace's file.
 
-ghost use Rattle.std.specs.Prelude.{◌≡◌, ◌⊎◌, ◌&&◌, ◌++◌, ℕ, Bool, [], List, Option, Some, IfOk, IfErr};
+ghost use Rattle.std.specs.Prelude.{◌≡◌, ◌⊎◌, ◌&&◌, ◌++◌, ℕ, Bool, [], true, List, Option, Some, IfOk, IfErr, IfSome};
 ghost use Rattle.std.specs.Path.{path_bytes};
 ghost use Rattle.fl_desk.specs.Kept.{IsKept};
 ghost use Rattle.fl_audit.specs.First.{AreWholeLines, IsSoOfAll};
@@ -15,7 +15,7 @@ ghost use Rattle.fl_stream.specs.Streams.{IsAs};
 ghost use Rattle.fl_trace.specs.Text.{text_of};
 ghost use Rattle.lockd_resume.specs.Resumed.{IsOverBehind, lines_at};
 
-use crate::before::{LastLines, PiecesBefore, with_before};
+use crate::before::{LastLines, PiecesBefore, are_enough, with_before};
 use crate::behind::ResumedRun;
 use crate::ending::{end_unheard, end_unopened};
 use crate::observer::ResumeObserver;
@@ -43,6 +43,8 @@ use std::{fs, io};
 // How a trace begins.
 const ASK: &[u8] = b"ask ";
 
+const BEHIND_GAP: &str = "goes on behind a gap: an order that is sent again may be taken twice";
+
 /// How a server goes on in a trace's file.
 #[derive(Clone, Copy)]
 pub struct Resuming<'a> {
@@ -54,6 +56,8 @@ pub struct Resuming<'a> {
     pub when: WhenUnwritten,
     /// When the next piece of the trace begins; never, if that isn't said.
     pub rotation: Option<Rotation>,
+    /// Whether it goes on also if pieces before the file that are wanted are missing, or don't fit.
+    pub allows_gap: bool,
 }
 
 /// `lockd serve --resume`: goes on behind the lines of a trace's file, under these rules, with one worker. It listens
@@ -61,8 +65,8 @@ pub struct Resuming<'a> {
 /// beginning, and gets what is written behind what it has. If another server has it, it isn't there any more, is no regular
 /// file, or can't be locked or cut off, the fault is `Trace`. So it is if it begins with a head, has fewer than 65,536
 /// orders and replies, and the pieces before it (`OlderPieces`) have too few, or one that is wanted is missing, isn't
-/// legal, or ends elsewhere. If its head names other rules, the next piece begins at once by these, unless what is there
-/// doesn't fit them (`ready_under`).
+/// legal, or ends elsewhere, unless a gap is allowed: then `notices` gets a line of it. If its head names other rules, the
+/// next piece begins at once by these, unless what is there doesn't fit them (`ready_under`).
 ///
 /// What follows the file's last newline is cut off, and the replies that its last order lacks are written to it. Then
 /// the lines of each order are written before any of its replies leaves. While a write fails, `when` says what happens,
@@ -120,6 +124,7 @@ pub fn resume_on<F: Write, N: Write + Copy + Drop, O: ResumeObserver>(
     };
     let mut r = Spinning::ticking(&stream, &stream);
     let mut w = Noting::new(Patient::new(&stream, &stream));
+    tell_gap(name, &point, notices);
     let file = PieceWriter::behind(at, file, point.bytes, how.when, notices);
     let socket = Some(&stream);
     let (status, run) = resume_stream(&mut r, &mut w, point, file, pieces, spare, socket, faults);
@@ -132,6 +137,13 @@ pub fn resume_on<F: Write, N: Write + Copy + Drop, O: ResumeObserver>(
         observer.lost();
     }
     status
+}
+
+// Tells that a server goes on from a point though the pieces before it that are wanted aren't there.
+fn tell_gap<N: Write + Drop>(name: &str, point: &ResumePoint, mut notices: N) {
+    if !are_enough(&point.recent, point.place) {
+        let _ = writeln!(notices, "{name} {BEHIND_GAP}");
+    }
 }
 
 // What becomes of an old socket. The observer is told behind which file the server goes on, unless that is new.
@@ -175,36 +187,15 @@ pub(crate) fn made_ready<'a, N: Write + Copy + Drop>(
     ensures rules { IfOk result (λ ready. ready.point.session.rules ≡ rules) }
     ensures before { IfErr result ComesBefore }
 {
-    if let Some(why) = untakable(at.rt, file, how) {
-        return Err(Unready::Untraced(why));
+    let (point, last) = heard_point(at, alloc, rules, file, how, details)?;
+    let rest = details.bad.text();
+    if let Some(why) = unbegun(at, how, point.bytes, last, rest) {
+        return Err(why);
     }
-    let listed = last_piece(at.rt, at.name, file);
-    let greatest = match &listed {
-        Ok(number) => *number,
-        Err(_) => 0,
-    };
-    let last = last_before(file, how, listed)?;
+    let greatest = greatest_number(last, &point);
     let Ok((pieces, spare)) = next_pieces(at, alloc, how, greatest, notices) else {
         return Err(Unready::Fault(CommandFault::NoMemory));
     };
-    let Ok(mut before) = OlderPieces::new(at.rt, at.name, last) else {
-        return Err(Unready::Fault(CommandFault::NoMemory));
-    };
-    let point = match resumed_from(alloc, rules, &mut before, file, details) {
-        Ok(point) => point,
-        Err(CommandFault::Trace) => {
-            let number = last.min(before.number.saturating_add(1));
-            return Err(Unready::Untraced(Untraced::Headed(number)));
-        }
-        Err(fault) => return Err(Unready::Fault(fault)),
-    };
-    let rest = details.bad.text();
-    if point.bytes == 0 && !may_begin_a_trace(rest) {
-        return Err(Unready::Fault(CommandFault::BadLine(1)));
-    }
-    if point.bytes == 0 && last > 0 {
-        return Err(Unready::Untraced(Untraced::Emptied(last)));
-    }
     match cut_off(file, point.bytes, rest) {
         Ok(()) => Ok(Ready {
             point,
@@ -215,16 +206,73 @@ pub(crate) fn made_ready<'a, N: Write + Copy + Drop>(
     }
 }
 
-// The greatest number of a piece before this file, which was listed. Nobody asks for it if the file has no head, and no
-// pieces come behind it.
-fn last_before(file: &mut File, how: Resuming<'_>, listed: io::Result<u64>) -> Result<u64, Unready>
+// What a server goes on from in this file, which it locks and reads, and the greatest number of a piece before it.
+fn heard_point(
+    at: TracePath<'_>,
+    alloc: Global,
+    rules: Rules,
+    file: &mut File,
+    how: Resuming<'_>,
+    details: &mut Details,
+) -> Result<(ResumePoint, u64), Unready>
+    ensures recent { IfOk result (λ it. it.0.recent ≡ it.0.heard.items ++ it.0.resumed.past.items) }
+    ensures place { IfOk result (λ it. it.0.place ≡ place_of it.0.resumed.past.items) }
+    ensures kept { IfOk result (λ it. IsKept (lines_at it.0) it.0.resumed.present) }
+    ensures present { IfOk result (λ it. it.0.resumed.present.rules ≡ it.0.session.rules) }
+    ensures rules { IfOk result (λ it. it.0.session.rules ≡ rules) }
     ensures before { IfErr result ComesBefore }
 {
-    if how.rotation.is_none() && head_rules(file).is_none() {
-        return Ok(0);
+    if let Some(why) = untakable(at.rt, file, how) {
+        return Err(Unready::Untraced(why));
     }
-    match listed {
+    let last = last_before(at, file, how)?;
+    let Ok(mut before) = OlderPieces::new(at.rt, at.name, last) else {
+        return Err(Unready::Fault(CommandFault::NoMemory));
+    };
+    match resumed_from(alloc, rules, &mut before, file, how.allows_gap, details) {
+        Ok(point) => Ok((point, last)),
+        Err(CommandFault::Trace) => {
+            let number = last.min(before.number.saturating_add(1));
+            Err(Unready::Untraced(Untraced::Headed(number)))
+        }
+        Err(fault) => Err(Unready::Fault(fault)),
+    }
+}
+
+// Why no server begins with nothing in a file that has so many bytes of whole lines and this rest. Before it this is the
+// greatest number of a piece.
+fn unbegun(
+    at: TracePath<'_>,
+    how: Resuming<'_>,
+    bytes: u64,
+    last: u64,
+    rest: &[u8],
+) -> Option<Unready>
+    ensures { IfSome result ComesBefore }
+{
+    if bytes > 0 {
+        return None;
+    }
+    if !may_begin_a_trace(rest) {
+        return Some(Unready::Fault(CommandFault::BadLine(1)));
+    }
+    if last > 0 {
+        return Some(Unready::Untraced(Untraced::Emptied(last)));
+    }
+    if !how.is_new && has_next(at) {
+        return Some(Unready::Untraced(Untraced::Unfinished));
+    }
+    None
+}
+
+// The greatest number of a piece before this file. If the folder can't be listed, none is known; that is a fault if the
+// file has a head, or if pieces come behind it.
+fn last_before(at: TracePath<'_>, file: &mut File, how: Resuming<'_>) -> Result<u64, Unready>
+    ensures before { IfErr result ComesBefore }
+{
+    match last_piece(at.rt, at.name, file) {
         Ok(last) => Ok(last),
+        Err(_) if how.rotation.is_none() && head_rules(file).is_none() => Ok(0),
         Err(why) => Err(unlisted(why)),
     }
 }
@@ -240,7 +288,7 @@ fn unlisted(why: io::Error) -> Unready
 }
 
 // Where the pieces go that come behind a file, before which this is the greatest number of a piece, and the room for the
-// text of a head. If none are asked for, one comes only behind a file that was cut.
+// text of a head. If none are asked for, one comes only behind a file that was spoilt.
 fn next_pieces<'a, N: Write + Copy + Drop>(
     at: TracePath<'a>,
     alloc: Global,
@@ -264,6 +312,21 @@ fn untakable(rt: &HostRuntime, file: &File, how: Resuming<'_>) -> Option<Untrace
         Ok(()) if !is_regular(file) => Some(Untraced::Irregular),
         Ok(()) if how.rotation.is_some() && is_link(rt, path) => Some(Untraced::Irregular),
         Ok(()) => None,
+    }
+}
+
+// The greatest number that counts as a piece's: behind a gap one is left out, so that pieces with numbers in a row are one
+// history.
+fn greatest_number(last: u64, point: &ResumePoint) -> u64 {
+    let is_gap = !are_enough(&point.recent, point.place);
+    last.saturating_add(u64::from(is_gap))
+}
+
+// Whether FILE.new is there, and has something in it: a copy of the file, or a piece, that a killed server left.
+fn has_next(at: TracePath<'_>) -> bool {
+    match fs::metadata(at.rt, Path::new(at.next)) {
+        Ok(found) => found.len() > 0,
+        Err(_) => false,
     }
 }
 
@@ -329,14 +392,16 @@ fn end_at<F: Write>(faults: &mut F, status: Status, whole: bool, there: bool) ->
 
 /// What a server goes on from behind the lines of a trace's file, under these rules: all its lines, up to the last
 /// newline. If they begin with a head, and aren't enough to know messages that are sent again, it reads pieces before,
-/// too, each by its own rules, until they are enough; if they never are, or one isn't legal or doesn't fit, the fault is
-/// `Trace`. What is told of the file's lines goes to `details`. All memory that the session needs is made before the
-/// file is read.
+/// too, each by its own rules, until they are enough. If they never are, or one isn't legal or doesn't fit, the fault is
+/// `Trace`, unless a gap is allowed: then it goes on with what was heard. It is `Trace`, too, if one ends behind the place
+/// where the lines begin: then these aren't the last. What is told of the file's lines goes to `details`. All memory that
+/// the session needs is made before the file is read.
 pub fn resumed_from<S: Read, P: PiecesBefore>(
     alloc: Global,
     rules: Rules,
     before: &mut P,
     file: &mut S,
+    allows_gap: bool,
     details: &mut Details,
 ) -> Result<ResumePoint, CommandFault>
     ensures lines { IfOk result (λ point. IsSoOfAll (S.remaining file.old)
@@ -344,7 +409,7 @@ pub fn resumed_from<S: Read, P: PiecesBefore>(
     ensures recent { IfOk result (λ point. point.recent ≡ point.heard.items ++ point.resumed.past.items) }
     ensures heard { IfOk result (λ point.
         IsHeardBefore rules (P.left before.old) point.resumed.past.items point.heard.items) }
-    ensures enough { IfOk result (λ point. AreEnough point.place point.recent) }
+    ensures enough { IfOk result (λ point. (allows_gap ≡ true) ⊎ AreEnough point.place point.recent) }
     ensures place { IfOk result (λ point. point.place ≡ place_of point.resumed.past.items) }
     ensures kept { IfOk result (λ point. IsKept (lines_at point) point.resumed.present) }
     ensures present { IfOk result (λ point. point.resumed.present.rules ≡ point.session.rules) }
@@ -370,7 +435,7 @@ pub fn resumed_from<S: Read, P: PiecesBefore>(
         Ok(resumed) => resumed,
         Err(fault) => return Err(fault),
     };
-    let last = match with_before(alloc, rules, before, recent, place) {
+    let last = match with_before(alloc, rules, before, recent, place, allows_gap) {
         Ok(last) => last,
         Err(fault) => return Err(fault),
     };

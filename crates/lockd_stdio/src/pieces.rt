@@ -8,7 +8,7 @@ use lockd_commands::{
     CommandFault, Details, LINE_ROOM, Noting, PieceReader, Rules, Status, check_row_on, end,
     explain_streams, explain_trace, read_opening,
 };
-use std::alloc::AllocError;
+use std::alloc::{AllocError, Global};
 use std::fs::File;
 use std::io;
 use std::io::{Chain, Cursor, ErrorKind, Read, Write};
@@ -122,10 +122,7 @@ pub fn check_pieces(host: Host<'_>, said: SaidRules, paths: &[String]) -> Status
     }
     if host.verbose {
         explain_streams(&mut faults, status, None, output.failed());
-        if let Some(last) = last_begun(pieces.as_slice()) {
-            let name = last.input.path;
-            explain_trace(&mut faults, alloc, status, name, last.rules, &details);
-        }
+        explain_row(&mut faults, alloc, status, pieces.as_slice(), &details);
     }
     status
 }
@@ -163,6 +160,30 @@ fn explain_unread<W: Write>(to: &mut W, pieces: &[PieceReader<Piece<'_>>]) {
             let _ = writeln!(to, "{path}: {why}");
         }
     }
+}
+
+// Says more of the last piece that was read, and how many there are, if all are legal.
+fn explain_row<W: Write>(
+    to: &mut W,
+    alloc: Global,
+    status: Status,
+    pieces: &[PieceReader<Piece<'_>>],
+    details: &Details,
+) {
+    let Some(last) = last_begun(pieces) else {
+        return;
+    };
+    let (path, count) = (last.input.path, pieces.len());
+    if status == Status::Different && details.difference.is_none() {
+        let _ = writeln!(
+            to,
+            "{path} doesn't go on from what is there after the piece before it"
+        );
+    }
+    if status == Status::Good && count > 1 {
+        let _ = write!(to, "{count} pieces, the last one with ");
+    }
+    explain_trace(to, alloc, status, path, last.rules, details);
 }
 
 // The last piece that was read.

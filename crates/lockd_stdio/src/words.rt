@@ -137,10 +137,13 @@ impl<R: Files, W: Write> Observer for ServerWords<'_, R, W> {
                 "{file} goes on from a piece before it, which isn't there: {file}.N has its last orders, which may be sent again"
             )),
             Untraced::Headed(number) => self.say(format_args!(
-                "{file}.{number} isn't the next piece before {file}, can't be read, or is the first one and all have too few orders: put back the pieces that stand before {file}"
+                "{file}.{number} isn't the next piece before {file}, can't be read, or is the first one and all have too few orders: put back the pieces that stand before {file}, or say --allow-gap"
             )),
             Untraced::Emptied(number) => self.say(format_args!(
                 "{file} has no lines, though {file}.{number} is a piece before it: put {file} back, or move the pieces away to begin with nothing"
+            )),
+            Untraced::Unfinished => self.say(format_args!(
+                "{file} has no lines, though {file}.new is there, perhaps a part of it: put {file} back and remove {file}.new, or remove that to begin with nothing"
             )),
             Untraced::Misfit(what) => {
                 let more = more_than_allowed(what);
@@ -163,7 +166,9 @@ impl<R: Files, W: Write> Observer for ServerWords<'_, R, W> {
 
     fn lost(&mut self) {
         let file = self.file;
-        self.say(format_args!("{file}: it was cut, or is gone: another file is there, or none"));
+        self.say(format_args!(
+            "{file}: it was cut or written to, or is gone: another file is there, or none"
+        ));
     }
 }
 

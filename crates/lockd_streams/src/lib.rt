@@ -2,8 +2,7 @@
 //! that try again, a trace's file, and its pieces.
 //!
 //! Contracts see no failure of a reader or a writer, and no file system. They let through:
-//! - a `connection` that first removes what stands at the path;
-//! - one that leaves the socket's file there, or removes it before a client connects;
+//! - a `connection` that first removes what stands at the path, leaves the socket's file there, or removes it too soon;
 //! - a `file_at` that gives other numbers than the file's device and inode, or those of a file at another path;
 //! - a `remove_socket` that asks `is_same_socket` about another path, or removes the file whatever the answer is;
 //! - a `remove_stale` that removes a socket at which somebody listens, or none;

@@ -38,7 +38,7 @@ pub struct Rotation {
 /// The pieces of a trace whose last one is FILE. The next one is written to FILE.new. Once its head is whole, the file at
 /// hand gets a number, and FILE.new takes its place. So at each moment FILE is the piece that counts. If that fails, the
 /// lines go on in the file at hand, `notices` gets a line of it, and the next try comes once that has grown by as much
-/// again. A piece whose file was cut is over at once. All memory is there before.
+/// again. A piece whose file was cut, or written to by another program, is over at once. All memory is there before.
 #[derive(Drop)]
 pub struct FilePieces<'a, N> {
     at: TracePath<'a>,
@@ -48,9 +48,9 @@ pub struct FilePieces<'a, N> {
     notices: N,
     // The greatest number that a piece has.
     last: u64,
-    // How many bytes the piece at hand has when the next one is due, and when it is due behind one that was cut.
+    // How many bytes the piece at hand has when the next one is due, and when it is due behind a spoilt one.
     due_at: u64,
-    cut_due_at: Option<Instant>,
+    spoilt_due_at: Option<Instant>,
     // A piece couldn't be begun, and none was since.
     failed: bool,
     turn: Option<Turn>,
@@ -64,8 +64,8 @@ struct Turn {
     bytes: u64,
     // No piece before it is needed any more.
     enough: bool,
-    // Its file was cut.
-    is_cut: bool,
+    // Its file was cut, or another program wrote to it.
+    is_spoilt: bool,
 }
 
 impl<'a, N: Write + Copy> FilePieces<'a, N> {
@@ -85,7 +85,7 @@ impl<'a, N: Write + Copy> FilePieces<'a, N> {
             notices,
             last,
             due_at: rotation.bytes,
-            cut_due_at: None,
+            spoilt_due_at: None,
             failed: false,
             turn: None,
         })
@@ -107,16 +107,16 @@ impl<'a, N: Write + Copy> FilePieces<'a, N> {
             next,
             bytes: here.bytes(),
             enough,
-            is_cut: here.is_cut(),
+            is_spoilt: here.is_spoilt(),
         });
         Ok(made)
     }
 
-    // The next piece counts from now on, whose head this file has. A file at hand that was cut, and is gone, gets no
+    // The next piece counts from now on, whose head this file has. A spoilt file at hand that is gone gets no
     // number.
     fn put(&mut self, turn: &Turn, next: &File) -> io::Result<()> {
         next.sync_data()?;
-        let is_gone = turn.is_cut && self.at.refuse_another().is_ok();
+        let is_gone = turn.is_spoilt && self.at.refuse_another().is_ok();
         let number = if is_gone {
             self.last
         } else {
@@ -180,9 +180,9 @@ impl<'a, N: Write + Copy> FilePieces<'a, N> {
         self.put_off(bytes);
     }
 
-    // A piece was begun. It is told, if none was when the last one was due, or its file was cut.
-    fn recover(&mut self, is_cut: bool) {
-        if self.failed || is_cut {
+    // A piece was begun. It is told, if none was when the last one was due, or the file was spoilt.
+    fn recover(&mut self, is_spoilt: bool) {
+        if self.failed || is_spoilt {
             self.failed = false;
             let _ = writeln!(self.notices, "{} goes on in a new piece", self.at.name);
         }
@@ -193,7 +193,7 @@ impl<'a, N: Write + Copy> FilePieces<'a, N> {
     fn put_off(&mut self, bytes: u64) {
         self.failed = true;
         self.due_at = bytes.saturating_add(self.rotation.bytes);
-        self.cut_due_at = after_pause(self.at.rt);
+        self.spoilt_due_at = after_pause(self.at.rt);
     }
 }
 
@@ -201,7 +201,7 @@ impl<'a, N: Write + Copy + Drop> Pieces<PieceWriter<'a, N>> for FilePieces<'a, N
     fn is_due(&self, here: &PieceWriter<'a, N>, enough: bool) -> bool {
         let file = here.writer().file();
         let is_long = enough && file.bytes() >= self.due_at;
-        is_long || file.is_cut() && is_time(self.at.rt, self.cut_due_at)
+        is_long || file.is_spoilt() && is_time(self.at.rt, self.spoilt_due_at)
     }
 
     fn begin(&mut self, here: &PieceWriter<'a, N>, enough: bool) -> Option<PieceWriter<'a, N>> {
@@ -229,8 +229,8 @@ impl<'a, N: Write + Copy + Drop> Pieces<PieceWriter<'a, N>> for FilePieces<'a, N
             return false;
         }
         self.due_at = self.rotation.bytes;
-        self.cut_due_at = None;
-        self.recover(turn.is_cut);
+        self.spoilt_due_at = None;
+        self.recover(turn.is_spoilt);
         writer.settle(self.when);
         if turn.enough {
             self.remove_old();

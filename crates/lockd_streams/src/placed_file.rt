@@ -85,12 +85,10 @@ impl<'a> TracePath<'a> {
 enum Found {
     /// It is there.
     There,
-    /// No file is there.
-    Gone,
-    /// Another file is there.
-    Another,
-    /// It lacks bytes that it had.
-    Cut,
+    /// No file is there, or another one.
+    Missing(&'static str),
+    /// It lacks bytes that it had, or has others.
+    Spoilt(&'static str),
 }
 
 /// A trace's file. Each flush looks for it at its path, but not more often than once a second. If it isn't there, it gets
@@ -149,9 +147,9 @@ impl<'a, N: Write + Copy> PlacedFile<'a, N> {
         self.bytes
     }
 
-    // Whether it lacks bytes that it had, when it was looked for last.
-    pub(crate) fn is_cut(&self) -> bool {
-        self.found == Found::Cut
+    // Whether it lacked bytes that it had, or had others, when it was looked for last.
+    pub(crate) fn is_spoilt(&self) -> bool {
+        matches!(self.found, Found::Spoilt(_))
     }
 
     /// Looks for it, and says whether it is at its path, with all that it had.
@@ -185,10 +183,9 @@ impl<'a, N: Write + Copy> PlacedFile<'a, N> {
         self.found = found;
         match found {
             Found::There => self.tell_if(is_new, "is there again"),
-            Found::Cut => self.tell_if(is_new, "was cut"),
-            Found::Gone if tries || is_new => self.put_back(is_new, "was moved or removed"),
-            Found::Another if tries || is_new => self.put_back(is_new, "was replaced"),
-            Found::Gone | Found::Another => {}
+            Found::Spoilt(how) => self.tell_if(is_new, how),
+            Found::Missing(how) if tries || is_new => self.put_back(is_new, how),
+            Found::Missing(_) => {}
         }
     }
 
@@ -198,13 +195,15 @@ impl<'a, N: Write + Copy> PlacedFile<'a, N> {
             return self.found;
         };
         if own.len() < self.bytes {
-            return Found::Cut;
+            return Found::Spoilt("was cut");
         }
+        let gone = Found::Missing("was moved or removed");
         match fs::metadata(self.at.rt, self.at.file()) {
-            Ok(there) if is_same(&own, &there) => Found::There,
-            Ok(_) => Found::Another,
+            Ok(there) if !is_same(&own, &there) => Found::Missing("was replaced"),
+            Ok(_) if own.len() > self.bytes => Found::Spoilt("was written to by another program"),
+            Ok(_) => Found::There,
             Err(why) => match why.kind() {
-                ErrorKind::NotFound | ErrorKind::NotADirectory => Found::Gone,
+                ErrorKind::NotFound | ErrorKind::NotADirectory => gone,
                 _ => self.found,
             },
         }
@@ -258,7 +257,7 @@ impl<'a, N: Write + Copy> PlacedFile<'a, N> {
     // Fills FILE.new with all that it has, and puts that at its path.
     fn fill(&mut self, made: &mut File) -> io::Result<()> {
         self.file.seek(SeekFrom::Start(0))?;
-        self.bytes = io::copy(&mut self.file, made)?;
+        io::copy(&mut self.file, made)?;
         made.sync_data()?;
         self.at.refuse_another()?;
         self.at.put_next()
