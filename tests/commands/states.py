@@ -351,6 +351,15 @@ def try_rules_that_are_said_of_a_row():
         assert status == 1 and told.startswith(f"line {line} of {at}: tell 9 ok\n") and told.endswith(f"\njudged by {rules}: perhaps it was made by other rules\n"), told
 
 
+def try_more_of_a_row():
+    """How many pieces there are, and what the last one has; or that it doesn't go on from the one before."""
+    first = said("state", text=b"") + said("script", text=WAITED_FOR)
+    second = said("state", text=first) + LET_GO
+    lines, orders = len(second.splitlines()), LET_GO.count(b"ask ")
+    assert judged([first, second], "-v") == ("legal\n", f"2 pieces, the last one with {lines} lines, {orders} order{'s' * (orders > 1)}\n", 0)
+    assert judged([second, second], "-v") == ("differs 1 of 2\n", "2 doesn't go on from what is there after the piece before it\n", 1)
+
+
 def try_a_first_piece_without_a_head():
     """Is judged by the rules of the piece behind it, and alone by the standard ones."""
     few = b"0 4096 256 1 1024"

@@ -470,7 +470,7 @@ def try_what_is_said_of_a_trace_that_goes():
             os.replace(f"{server.file}.other", server.file)
         _, told, status = server.ended()
         stays = f"{server.file} was replaced, and can't be put back: another file is there"
-        why = f"{server.file}: it was cut, or is gone: another file is there, or none"
+        why = f"{server.file}: it was cut or written to, or is gone: another file is there, or none"
         assert ({*told.splitlines()[3:]}, status) == ({stays, "trace failed", "the client has closed its end", why}, 2), told
         assert told.index(stays) < told.index("trace failed") < told.index(why), told
 

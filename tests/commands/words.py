@@ -21,7 +21,7 @@ TOO_LONG_FOR_A_SOCKET = "/tmp/" + "x" * 103
 CREATED = b"ask 0 1 1 0 0 0 create 0 420 61\n"
 OPTIONS = {"--workers": "2", "--trace": "none", "--resume": NOWHERE, "--rotate": "1", "--keep": "2", "--trace-full": "refuse"}
 MISFIT = "error: '--trace-full' takes go-on or refuse with '--trace FILE', and wait or end with '--resume FILE' or '--rotate BYTES'\n\nFor more information, try '--help'.\n"
-ALONE = "error: '--rotate' needs '--resume FILE' or '--trace FILE', and '--keep' needs '--rotate BYTES'\n\nFor more information, try '--help'.\n"
+ALONE = "error: '--rotate' needs '--resume FILE' or '--trace FILE', '--keep' needs '--rotate BYTES', and '--allow-gap' needs '--resume FILE'\n\nFor more information, try '--help'.\n"
 MANY = ("error: '--rotate' takes one worker: with several, the head of a new piece would be told while others take orders\n\n"
         "For more information, try '--help'.\n")
 RULES = {"--fair": [], "--runs": ["1"], "--parked": ["1"], "--files": ["1"], "--open": ["1"]}
@@ -123,6 +123,17 @@ def try_options_of_pieces():
     lines += [resume + keep, keep + resume, [*keep, *resume, "--trace-full", "end"]]
     lines += [trace + keep, keep + trace, [*keep, *trace, "--trace-full", "refuse"]]
     return are_refused(*(["serve", NOWHERE, *it] for it in lines), by=ALONE)
+
+
+def try_a_gap():
+    """--allow-gap is a flag that goes with --resume, in each order and whatever else is said."""
+    gap, resume, trace, rotate = ["--allow-gap"], ["--resume", NOWHERE], ["--trace", NOWHERE], ["--rotate", "1"]
+    taken = [[*first, *last, *more] for first, last in ((gap, resume), (resume, gap)) for more in ([], rotate, [*rotate, "--keep", "2"], ["--fair"])]
+    are_refused(*(["serve", NOWHERE, *it] for it in taken), by="cannot trace\n")
+    lines = [[*gap, *it] for it in ([], trace, [*trace, *rotate], rotate, ["--workers", "1"], ["--trace", "none"])]
+    are_refused(*(["serve", NOWHERE, *it] for line in lines for it in (line, line[1:] + gap)), by=ALONE)
+    return are_refused(*(["serve", NOWHERE, *resume, *it] for it in (gap * 2, ["--allow-gap=1"], ["--allow-gaps"])),
+                       *([command, *gap] for command in ("script", "bytes", "check", "locks", "state")), ["drive", NOWHERE, *gap])
 
 
 def try_workers_of_a_new_trace_in_pieces():

@@ -250,7 +250,7 @@ def try_a_trace_that_is_removed():
     os.replace(f"{trace}.other", trace)
     same(mount.end()[0], 3)
     mount.says(f"{trace} was replaced, and can't be put back: another file is there\n",
-               f"trace failed\nlockd_mount: the server ended with status 2: {trace} lacks lines, or is gone\n")
+               f"trace failed\nlockd_mount: the server ended with status 2: {trace} lacks lines, is spoilt, or is gone\n")
 
 
 def try_a_mount_takes_no_refuse():

@@ -216,19 +216,38 @@ def try_what_becomes_of_pieces_is_told():
     same(mount.end(), (0, "legal"))
 
 
-def try_a_piece_that_a_new_server_needs_is_gone():
+def goes_on_behind_a_gap(mount, one, two, ended=(0, "legal")):
+    """A new server has the lock of one process, and the wait of another. This is what the mount says at its end."""
+    mount.cut()
+    until(lambda: f"{mount.file} goes on behind a gap: " in mount.output())
+    assert two.waits()
+    contains(listed(mount).stdout, " WRITE* ")
+    same([one.ask("flock", "a", NOT_HELD), two.answer()], ["ok", "ok"])
+    for it in one, two:
+        it.kill()
+    same(mount.end(), ended)
+
+
+def try_a_piece_that_a_new_server_wants_is_gone():
     """FILE is short: who was answered before its head isn't known without it."""
     mount = InPieces()
     it = busy(mount)
     fill(it)
     it.kill()
     one, two = held_and_waited_for(mount)
-    contains(listed(mount).stdout, " WRITE* ")
     (last,) = mount.pieces()
     os.unlink(f"{mount.file}.{last}")
-    os.kill(mount.server(), signal.SIGKILL)
-    lost(mount, one, two, 1, "cannot trace\n", "the server ended with status 2 before it listened", f"can't go on with {mount.file}",
-         f"{mount.file} lacks the piece before it")
+    goes_on_behind_a_gap(mount, one, two)
+
+
+def try_a_server_that_is_killed_behind_a_cut():
+    """The piece that was cut is judged only with --rotate."""
+    for words, ended in ((), (0, "legal")), (("--rotate", "1", "--keep", "2"), (3, "bad line 1 of 1")):
+        mount = Resumed(*words)
+        one, two = held_and_waited_for(mount)
+        os.truncate(mount.file, 9)
+        until(lambda: f"{mount.file} goes on in a new piece\n" in mount.output())
+        goes_on_behind_a_gap(mount, one, two, ended)
 
 
 # ---- Other limits ----
@@ -301,13 +320,13 @@ LIMITS = "--runs", "16384", "--parked", "1024", "--files", "4096", "--open", "40
 
 
 def words_handed_on(*words):
-    """Those behind the trace's path that the server is started with, but for the limits of each mount."""
+    """Those that the server is started with behind the trace's path and --allow-gap, but for the limits of each mount."""
     folder, file, at = tempfile.mkdtemp(dir=WORK), tempfile.mkdtemp(dir=WORK) + "/file", tempfile.mkdtemp(dir=WORK)
     write_server(f"{folder}/lockd", f"print(*sys.argv[1:], file=open({folder!r} + '/words', 'w'))\n{A_HEAD}sys.exit(2)\n")
     contains(refusal("--resume", file, *words, folder=at, LOCKD=f"{folder}/lockd"), "the server ended with status 2 before it listened")
     same(os.path.exists(file), False)
     with open(f"{folder}/words", encoding="ascii") as it:
-        handed = it.read().partition(f"serve socket --resume {file}")[2].split()
+        handed = it.read().partition(f"serve socket --resume {file} --allow-gap")[2].split()
     same(tuple(handed[-len(LIMITS):]), LIMITS)
     return handed[:-len(LIMITS)]
 

@@ -375,6 +375,67 @@ def try_a_file_that_is_cut():
         assert judged(server.traced()) == "legal\n"
 
 
+def try_a_file_that_another_program_writes_to():
+    """As of one that was cut, but that the old piece has what was written."""
+    server = resuming(traced=LINES)
+    client = Client(server)
+    client.meet()
+    wanted = run("state", text=LINES).stdout
+    with open(server.file, "ab") as it:
+        it.write(b"notes\n")
+    assert server.tells(2) == f"{server.file} was written to by another program\n{server.file} goes on in a new piece\n"
+    assert server.traced() == wanted, server.traced()
+    with open(f"{server.file}.1", "rb") as spoilt:
+        assert spoilt.read() == LINES + b"notes\n"
+    client.ask(ASKED)
+    client.finish()
+    assert server.ended() == (b"", "", 0)
+
+
+def try_a_file_that_was_written_to_and_goes():
+    """It is put back with all that it has."""
+    server = resuming(traced=LINES)
+    client = Client(server)
+    client.meet()
+    with open(server.file, "ab") as it:
+        it.write(b"notes\n")
+    os.remove(server.file)
+    became = "was moved or removed, and is there again", "was written to by another program", "goes on in a new piece"
+    assert server.tells(3) == "".join(f"{server.file} {it}\n" for it in became)
+    with open(f"{server.file}.1", "rb") as spoilt:
+        assert spoilt.read() == LINES + b"notes\n"
+    client.ask(ASKED)
+    client.finish()
+    assert server.ended() == (b"", "", 0)
+    assert judged(server.traced()) == "legal\n"
+
+
+def try_killed_behind_a_file_that_was_cut():
+    """The next server has all locks, if it may go on behind a gap. If it may not, nobody is served."""
+    server = resuming("--allow-gap", traced=LINES)
+    client = Client(server)
+    client.meet()
+    wanted = run("state", text=LINES).stdout
+    os.truncate(server.file, 9)
+    server.tells(2)
+    server.serving.kill()
+    server.ended()
+    assert server.traced() == wanted
+    allowed = server.words
+    server.words = [it for it in allowed if it != "--allow-gap"]
+    server.start()
+    assert server.ended() == (b"", "cannot trace\n", 2)
+    server.words = allowed
+    server.start()
+    client = Client(server)
+    client.meet()
+    client.ask(ASKED)
+    client.finish()
+    assert server.ended() == (b"", f"{server.file} goes on behind a gap: an order that is sent again may be taken twice\n", 0)
+    assert judged(server.traced()) == "legal\n"
+    assert server.traced().startswith(wanted) and len(server.traced()) > len(wanted)
+
+
 def try_eight_servers_at_once():
     """Of those that start together with one file, one goes on."""
     first = resuming(traced=LINES)

@@ -226,12 +226,22 @@ def try_a_link_to_a_file_in_pieces():
 
 
 def try_a_file_with_no_lines_beside_pieces():
-    """Someone has taken FILE away, or has emptied it: nobody is served."""
-    refused(at_rest({1: LINES}, b"", *ROTATE))
-    server = behind({1: LINES}, b"")
-    with Asking(server):
-        pass
-    assert server.ended() == (b"", "", 0) and read(f"{server.file}.1") == LINES
+    """Someone has taken FILE away, or has emptied it, or cut it within its first line: nobody is served. Nor is anybody if FILE.new is there, a copy of
+    FILE or a piece, but for an empty one."""
+    for options in ROTATE, (), ("--allow-gap",):
+        for traced in b"", b"as":
+            refused(at_rest({1: LINES}, traced, *options))
+    for left in LINES[:9], b"":
+        server = at_rest({}, b"")
+        with open(f"{server.file}.new", "xb") as it:
+            it.write(left)
+        if left:
+            refused(server)
+            continue
+        server.start()
+        with Asking(server):
+            pass
+        assert server.ended() == (b"", "", 0)
 
 
 def try_permissions_of_a_new_piece():
@@ -1196,6 +1206,40 @@ def try_a_short_piece_that_does_not_fit():
     os.mkdir(f"{server.file}.2")
     refused(server)
     return f"{len(wrong) + 5} pieces"
+
+
+GAP = "goes on behind a gap: an order that is sent again may be taken twice"
+
+
+def try_a_gap_is_allowed():
+    """What a short FILE wants is missing, or doesn't fit: the server says so, and goes on. What stands behind the gap it knows. Without a gap it says
+    nothing, and a FILE that differs is refused as ever."""
+    older, traced = short_pieces()
+    for number, text in (4, None), (4, b"notes\n"), (3, None), (2, piece(100, 139)), (1, None), (1, piece(0, 99)), (0, None):
+        pieces = {it: text for it, text in {**older, number: text}.items() if text is not None}
+        server = behind(pieces, traced, "--allow-gap")
+        with Asking(server) as client:
+            answers_again(client, SEAMS[number], 250)
+            client.ask(250, 300)
+        assert server.ended() == (b"", number and f"{server.file} {GAP}\n" or "", 0)
+        assert read(server.file) == piece(200, 300)
+        assert {it: read(f"{server.file}.{it}") for it in pieces} == pieces
+    # A FILE that was put back from an older piece isn't the last one.
+    refused(at_rest(older, older[3], "--allow-gap"))
+    last = traced.rindex(b"\ntell ") + 1
+    server = behind({}, traced[:last] + b"tell 1 err 71\n", "--allow-gap")
+    assert server.ended()[1:] == (f"differs {traced[:last].count(10) + 1}\n", 2)
+
+
+def try_other_rules_behind_a_gap():
+    """It is told once. The new piece tells all locks. The old one's number isn't next to those before the gap."""
+    _, traced = short_pieces()
+    server = behind({}, traced, "--allow-gap", *CHANGES[0])
+    with Asking(server) as client:
+        client.ask(250, 300)
+    assert server.ended() == (b"", f"{server.file} {GAP}\n", 0)
+    assert names_of(server) == [2, ""] and read(f"{server.file}.2") == traced
+    assert behind_head(read(server.file)) == text_of(250, 300)
 
 
 if __name__ == "__main__":

@@ -362,6 +362,18 @@ def try_a_file_that_is_cut_off_has_no_hole():
     assert server.ended() == (b"", f"{server.file} was cut\ntrace failed\n", 2)
 
 
+def try_a_new_file_that_another_program_writes_to():
+    """That is told when orders come, or at the end."""
+    for workers in 1, 4:
+        server = Server("--trace", "{file}", workers=workers)
+        with server.connect() as client:
+            client.sendall(INIT + CREATE)
+            take(client, 80 + 160)
+            with open(server.file, "ab") as it:
+                it.write(b"notes\n")
+        assert server.ended() == (b"", f"{server.file} was written to by another program\ntrace failed\n", 2)
+
+
 def try_a_file_that_goes():
     """A trace's file that was removed is put back by the end. Of one whose name another has taken, that is told."""
     for workers in 1, 4:
