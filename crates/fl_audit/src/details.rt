@@ -28,6 +28,13 @@ impl Details {
             bad: BadLine::new(),
         }
     }
+
+    // Forgets a difference that isn't at this line.
+    pub(crate) fn keep_difference_at(&mut self, line: usize) {
+        if matches!(&self.difference, Some(found) if found.number != line) {
+            self.difference = None;
+        }
+    }
 }
 
 /// A line that is none of a trace.

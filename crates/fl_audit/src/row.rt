@@ -70,7 +70,8 @@ pub(crate) enum Outcome {
 /// isn't judged, and pieces behind that one aren't read. It takes memory for two directories, and that of `audit`,
 /// however many pieces there are and however long they are.
 ///
-/// Reading fails as that of `audit` does, and `details` gets what it gets there, of the last piece that was read.
+/// Reading fails as that of `audit` does, and `details` gets what it gets there, of the last piece that was read. If that
+/// doesn't go on from the one before, they have no difference.
 pub fn audit_row<R: Read>(
     alloc: Global,
     pieces: &mut [PieceReader<R>],
@@ -87,7 +88,10 @@ pub fn audit_row<R: Read>(
         let piece = at + 1;
         match hear_piece(alloc, before, &mut pieces[at], details) {
             Ok(Outcome::Ends(end)) => before = Some(end),
-            Ok(Outcome::Breaks(line)) => return Ok(RowFinding::Differs(PieceLine { piece, line })),
+            Ok(Outcome::Breaks(line)) => {
+                details.keep_difference_at(line);
+                return Ok(RowFinding::Differs(PieceLine { piece, line }));
+            }
             Err(fault) => return Err(RowFault { piece, fault }),
         }
     }
