@@ -42,7 +42,7 @@ static struct {
     int idle; // how many of the threads neither send nor read
     unsigned servers; // how many came after the first one
     _Alignas(CACHE_LINE) atomic_ullong replies;
-    atomic_ullong refused, lines;
+    atomic_ullong refused, lines, granted;
     // Messages by opcode; those of all greater ones in the last.
     _Alignas(CACHE_LINE) atomic_ullong seen[OPCODES];
 } carrier = {.lock = PTHREAD_MUTEX_INITIALIZER, .changed = PTHREAD_COND_INITIALIZER};
@@ -343,6 +343,16 @@ bool answer(uint64_t unique, int error, const void *body, size_t size)
     return is_taken(written);
 }
 
+uint64_t carrier_granted(void)
+{
+    return atomic_load(&carrier.granted);
+}
+
+void carrier_forget_granted(void)
+{
+    atomic_store(&carrier.granted, 0);
+}
+
 void carrier_agreed(void)
 {
     atomic_store(&carrier.agreed, true);
@@ -386,8 +396,8 @@ static ssize_t write_replies(char *bytes, size_t held)
         size_t left = change_reply(bytes + done, head.len);
         if (left && !write_reply(bytes + done, left))
             return -2;
-        if (carrier.resumes)
-            kept_answered(head.unique);
+        if (carrier.resumes && kept_answered(head.unique) && !head.error)
+            atomic_store(&carrier.granted, head.unique);
         count(&carrier.replies);
     }
     return (ssize_t)done;

@@ -6,6 +6,7 @@
 #include <fcntl.h>
 #include <poll.h>
 #include <pthread.h>
+#include <stdatomic.h>
 #include <stdio.h>
 #include <string.h>
 #include <sys/eventfd.h>
@@ -20,6 +21,7 @@ static struct {
     const char *trace;
     char why[256]; // the thread's, as the next one, until it has ended
     bool failed;
+    atomic_bool put_back;
 } faults;
 
 // What follows this word at the front of a text, or NULL.
@@ -37,6 +39,11 @@ static void note(const char *line)
     if (why || again)
         snprintf(faults.why, sizeof faults.why, "%s", why ? why : "");
     faults.failed |= !strcmp(line, "trace failed");
+    const char *became = behind(line, faults.trace);
+    if (became && strstr(became, ", and is there again"))
+        atomic_store(&faults.put_back, true);
+    else if (became && strstr(became, ", and can't be put back"))
+        atomic_store(&faults.put_back, false);
 }
 
 static void pass_on(char *line, size_t size)
@@ -88,6 +95,7 @@ int faults_open(const char *trace)
     faults.trace = trace;
     faults.failed = false;
     faults.why[0] = 0;
+    atomic_store(&faults.put_back, false);
     if (faults.ended >= 0)
         errno = pthread_create(&faults.thread, NULL, hear, NULL);
     faults.is_heard = faults.ended >= 0 && !errno;
@@ -108,6 +116,11 @@ void faults_end(void)
     pthread_join(faults.thread, NULL);
     close(faults.ended);
     faults.is_heard = false;
+}
+
+bool faults_put_back(void)
+{
+    return atomic_exchange(&faults.put_back, false);
 }
 
 bool faults_of_trace(char *said, size_t room)

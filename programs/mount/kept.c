@@ -138,12 +138,20 @@ static void drop_first_silent(void)
     drop(kept);
 }
 
-void kept_answered(uint64_t unique)
+static bool is_of_a_lock(const struct kept *kept)
+{
+    struct fuse_in_header head;
+    memcpy(&head, kept->message, sizeof head);
+    return head.opcode == FUSE_SETLK || head.opcode == FUSE_SETLKW;
+}
+
+bool kept_answered(uint64_t unique)
 {
     pthread_mutex_lock(&all.lock);
     struct kept *kept = *chain_of(unique);
     while (kept && kept->unique != unique)
         kept = kept->next;
+    bool is_lock = kept && is_of_a_lock(kept);
     while (kept && all.silent && all.silent->number < kept->number)
         drop_first_silent();
     if (kept && kept == all.silent)
@@ -151,6 +159,7 @@ void kept_answered(uint64_t unique)
     else if (kept)
         drop(kept);
     pthread_mutex_unlock(&all.lock);
+    return is_lock;
 }
 
 size_t kept_init(char *to)

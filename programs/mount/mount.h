@@ -97,6 +97,8 @@ struct pieces {
 void trace_begins(struct trace *trace);
 // Sees whether the file is there, with all that it was seen to have, and the piece before it, if there was one.
 enum found trace_look(struct trace *trace);
+// Whether the file, or the piece before it, has this order's reply of 0, as far as they can be read.
+bool trace_tells(const struct trace *trace, uint64_t unique);
 // What became of it, in some words behind its path.
 const char *trace_became(enum found found);
 struct pieces trace_pieces(const struct trace *trace);
@@ -146,6 +148,8 @@ void head_drop(const struct server *server, bool may_have_served);
 int faults_open(const char *trace);
 // After its end: waits until all that it said has gone on.
 void faults_end(void);
+// Whether it said that it put the trace's file back, since this was asked last.
+bool faults_put_back(void);
 // Whether it said at its end that its trace failed; if so, what became of the file, to be said behind how it ended.
 bool faults_of_trace(char *said, size_t room);
 
@@ -237,6 +241,9 @@ enum end carrier_end(int *fault);
 // Whether INIT was agreed.
 bool carrier_is_agreed(void);
 void carrier_counts(struct counts *counts);
+// The unique of the last SETLK or SETLKW that was answered with 0 since this was forgotten, with --resume, or 0.
+uint64_t carrier_granted(void);
+void carrier_forget_granted(void);
 void carrier_print_opcodes(void);
 // For the kernel, of either thread. False where nothing is mounted any more.
 bool write_reply(const char *reply, size_t size);
@@ -252,8 +259,8 @@ void carrier_refused_init(int error);
 
 // Keeps a copy of a message. False if there is no memory.
 bool kept_add(const char *message, size_t size);
-// A reply with this unique came.
-void kept_answered(uint64_t unique);
+// A reply with this unique came. Gives whether it is that to a SETLK or a SETLKW.
+bool kept_answered(uint64_t unique);
 // Copies the INIT, and gives its size, or 0 if none was kept. There is room for MOST bytes.
 size_t kept_init(char *to);
 // Copies messages in the order of sending, marked as sent again: those after the one of this number,

@@ -344,6 +344,12 @@ static enum begun begin_again(struct server *server, const struct options *optio
         say("%s %s: another server wouldn't know all locks", server->trace.path, trace_became(found));
         return NOT_TRIED;
     }
+    uint64_t granted = carrier_granted();
+    if (granted && !trace_tells(&server->trace, granted)) {
+        say_end(server, "");
+        say("%s lacks the last lock: another server wouldn't know all locks", server->trace.path);
+        return NOT_TRIED;
+    }
     while (comes_again(server, options)) {
         enum begun begun = begin(server, options, stops, FOR_EVER);
         if (begun != ENDED || WIFEXITED(server->status))

@@ -12,7 +12,7 @@
 #include <sys/file.h>
 #include <unistd.h>
 
-enum { FRONT = 64 }; // bytes in which a head says it
+enum { FRONT = 64, BLOCK = 1 << 16 }; // bytes in which a head says it, and those of a read
 
 // Sees the file at the path. False if none can be read there.
 static bool see(const char *path, struct seen *seen)
@@ -120,15 +120,19 @@ void trace_begins(struct trace *trace)
     trace->seen = (struct seen){0};
     trace->found = FOUND_WHOLE;
     trace->was_cut = false;
+    carrier_forget_granted();
     if (trace->path[0] && see(trace->path, &trace->seen) && trace->seen.before)
         see_last(trace);
 }
 
-// The server has put a copy of a FILE that was gone into its place, and has that: no other process would.
-static bool is_put_back(const struct trace *trace, const struct seen *seen)
+// The server has put a copy of a FILE that was gone into its place: it said so since the last look, or has that file, as no other process
+// would.
+static bool is_put_back(const struct trace *trace, const struct seen *seen, bool is_said)
 {
     if (seen->before != trace->seen.before || seen->at.st_size < trace->seen.at.st_size)
         return false;
+    if (is_said)
+        return true;
     int file = open(trace->path, O_RDONLY | O_NONBLOCK | O_CLOEXEC);
     bool is_taken = file >= 0 && flock(file, LOCK_SH | LOCK_NB) && errno == EWOULDBLOCK;
     if (file >= 0)
@@ -139,18 +143,21 @@ static bool is_put_back(const struct trace *trace, const struct seen *seen)
 static enum found found_of(struct trace *trace)
 {
     struct seen seen, *before = &trace->seen;
+    bool is_said = faults_put_back();
     // What can't be opened for another reason, as too many open files, is taken to be as it was.
     if (!see(trace->path, &seen))
         return errno == ENOENT || errno == ENOTDIR ? FOUND_NONE : trace->found;
     // The new piece may have the inode of one that was removed.
     bool is_next = seen.before > before->before;
-    if (!is_next && before->at.st_ino && !is_one_file(&seen.at, &before->at) && !is_put_back(trace, &seen))
+    if (!is_next && before->at.st_ino && !is_one_file(&seen.at, &before->at) && !is_put_back(trace, &seen, is_said))
         return FOUND_ANOTHER;
     trace->was_cut = !is_next && (trace->was_cut || seen.before != before->before || seen.at.st_size < before->at.st_size);
     if (trace->was_cut)
         return FOUND_CUT;
-    if (is_next)
+    if (is_next) {
         see_last(trace);
+        carrier_forget_granted();
+    }
     *before = seen;
     return seen.before && !has_last(trace) ? FOUND_NO_PIECE : FOUND_WHOLE;
 }
@@ -158,6 +165,34 @@ static enum found found_of(struct trace *trace)
 enum found trace_look(struct trace *trace)
 {
     return trace->found = found_of(trace);
+}
+
+// Looks for it from the end. What can't be read may have it.
+static bool file_has(const char *path, const char *text)
+{
+    static char block[BLOCK];
+    struct stat at;
+    size_t size = strlen(text);
+    int file = open(path, O_RDONLY | O_NONBLOCK | O_CLOEXEC);
+    if (file < 0)
+        return errno != ENOENT;
+    bool has = fstat(file, &at);
+    for (off_t end = has ? 0 : at.st_size, begin; !has && end > 0; end = begin ? begin + (off_t)size - 1 : 0) {
+        begin = end > BLOCK ? end - BLOCK : 0;
+        ssize_t got = pread(file, block, (size_t)(end - begin), begin);
+        has = got < 0 || memmem(block, (size_t)got, text, size);
+    }
+    close(file);
+    return has;
+}
+
+bool trace_tells(const struct trace *trace, uint64_t unique)
+{
+    char line[64], path[PIECE_PATH];
+    struct pieces pieces = trace_pieces(trace);
+    snprintf(line, sizeof line, "\ntell %llu ok\n", (unsigned long long)unique);
+    put_piece(path, trace, pieces.last);
+    return file_has(trace->path, line) || (pieces.count && file_has(path, line));
 }
 
 const char *trace_became(enum found found)

@@ -452,6 +452,37 @@ def try_a_file_that_is_gone_or_cut():
         lost(mount, one, two, status, f"{mount.file} {became}: another server wouldn't know all locks")
 
 
+def try_killed_just_behind_a_cut():
+    """Nobody has looked at FILE, which ends with an order before those of locks."""
+    mount = Resumed(program=starting_often("lockd_mount_rests", "-DTICK=60000"))
+    one, two = held_and_waited_for(mount)
+    with open(mount.file, "rb") as it:
+        text = it.read()
+    os.truncate(mount.file, text.rindex(b"\nask ", 0, text.index(b" setlk")) + 1)
+    os.kill(mount.server(), signal.SIGKILL)
+    lost(mount, one, two, 1, f"{mount.file} lacks the last lock: another server wouldn't know all locks")
+
+
+def try_killed_once_its_file_was_put_back():
+    """Before the mount has looked at it: another server goes on with the copy."""
+    def empty(file):
+        with open(f"{file}.empty", "xb"):
+            pass
+        os.replace(f"{file}.empty", file)
+
+    for spoil, became in (os.remove, "was moved or removed"), (empty, "was replaced"):
+        mount = Resumed()
+        one, two = held_and_waited_for(mount)
+        spoil(mount.file)
+        until(lambda: f"{mount.file} {became}, and is there again\n" in mount.output())
+        mount.cut()
+        assert two.waits()
+        same([one.ask("flock", "a", NOT_HELD), two.answer()], ["ok", "ok"])
+        for it in one, two:
+            it.kill()
+        same(mount.end(), (0, "legal"))
+
+
 def try_a_file_that_is_gone_or_cut_is_told_within_seconds():
     """While the server runs, and once. One that was removed is put back, and behind one that was cut a new piece begins. That of `--trace` is put back, too."""
     plain = f"{tempfile.mkdtemp(dir=WORK)}/trace"
