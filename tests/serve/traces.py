@@ -384,6 +384,8 @@ def try_a_file_that_goes():
             with server.connect() as client:
                 client.sendall(INIT + CREATE)
                 take(client, 80 + 160)
+                # Several workers write lines soon, and an empty file would be replaced.
+                tries.wait_until(server.traced)
                 take_away(server.file)
                 client.sendall(setlk(3))
                 assert len(take(client, 16)) == 16
