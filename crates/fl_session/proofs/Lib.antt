@@ -1,10 +1,8 @@
 pub mod AgainLemmas
-pub mod AlikeLemmas
 pub mod BatchLemmas
 pub mod ClientLemmas
 pub mod CutLemmas
 pub mod FirstLemmas
-pub mod HeardLemmas
 pub mod KnownLemmas
 pub mod LaterLemmas
 pub mod MarkLemmas

@@ -1,5 +1,4 @@
 pub mod Again
-pub mod Alike
 pub mod AsOne
 pub mod Client
 pub mod CutOff

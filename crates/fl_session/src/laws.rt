@@ -3,26 +3,20 @@
 //! The first three say what a server that was killed leaves, and from what the next one goes on. The fourth says what
 //! becomes of orders, in a client's words: it uses each unique for one message, and sends again, with a mark, some of
 //! those that the first session took, and then all others. Five say the same in the words of sessions, and more of a
-//! cut inside a batch. Others say which replies come again, and how single messages meet the conditions. The last two
-//! say that a session behind a head, if it heard the last lines before that, goes on as one behind all lines.
+//! cut inside a batch. Others say which replies come again, and how single messages meet the conditions.
 
 ghost use Rattle.std.specs.Prelude.{◌≡◌, ◌≤◌, ℕ, ◌+◌, true, false, All, Contains, List, [], ◌∷◌, ◌++◌, length, take};
-ghost use Rattle.std.specs.Prelude.{drop, ◌⊎◌, Some, Ok};
+ghost use Rattle.std.specs.Prelude.{drop, Some, Ok};
 ghost use mathlib.Core.List.{IsPrefix};
-ghost use Rattle.fl_core.specs.State.{snapshot_of};
-ghost use Rattle.fl_desk.specs.Heads.{IsHead, head_lines};
 ghost use Rattle.fl_desk.specs.Legal.{IsLegal};
 ghost use Rattle.fl_desk.specs.Replay.{state_after};
-ghost use Rattle.fl_history.specs.Recent.{recalled, recent, spoken};
+ghost use Rattle.fl_history.specs.Recent.{spoken};
 ghost use Rattle.fl_history.specs.declared.history.Line.{Line};
 ghost use Rattle.fl_history.specs.declared.history.Line.TheVariants as line;
 ghost use Rattle.fl_order.specs.OpKind.{kind_of_opcode};
 ghost use Rattle.fl_order.specs.declared.kind.OpKind.TheVariants as kinds;
 ghost use Rattle.fl_order.specs.declared.order.Order.{Order};
-ghost use Rattle.fl_order.specs.declared.state_part.Head.{Head};
-ghost use Rattle.fl_order.specs.declared.state_part.StatePart.{StatePart};
 ghost use Rattle.fl_order.specs.declared.told.Told.{Told};
-ghost use Rattle.fl_session.specs.Alike.{AreAlike, DoTheSame, IsHeardEnough};
 ghost use Rattle.fl_session.specs.AsOne.{AllPlain, AreAsOne, IsCutInside, IsSentAgain, NoneRefused, part_of};
 ghost use Rattle.fl_session.specs.AsOne.{replies_again};
 ghost use Rattle.fl_session.specs.Client.{AreOnesAgain, HasTaken, IsNear};
@@ -45,10 +39,7 @@ ghost use Rattle.fl_wire.specs.Says.{said};
 ghost use Rattle.fl_wire.specs.Spell.{spelling_of};
 
 use fl_core::laws::settling_answers_the_oldest_first;
-use fl_desk::laws::{
-    a_history_can_be_cut, a_legal_history_goes_on_by_orders, an_order_leads_on,
-    own_reply_comes_first,
-};
+use fl_desk::laws::{a_legal_history_goes_on_by_orders, own_reply_comes_first};
 
 /// A server was killed. Suppose that the lines that it stored begin its history, and that they have all lines of its
 /// first messages. `IsAheadFrom` says the second, of the messages whose replies its client got; it doesn't say the
@@ -229,37 +220,3 @@ pub fn messages_with_uniques_of_their_own_are_new()
 pub fn a_mark_says_nothing_else()
     ensures { (message : List ℕ) → 16 ≤ length message → SaysTheSame message (with_mark message) }
 {}
-
-/// Two sessions under the same rules are as far, their lines lead to the same, and with those that each heard before
-/// say the same of each unique. Then they go on alike for ever: to the same messages they send the same replies, and add
-/// the same lines. So all that is proved of a session behind all lines is so of one behind a head that tells what is
-/// there after them.
-pub fn sessions_with_one_state_go_on_alike()
-    ensures { (s t : Session) (came : List Came) → AreAlike s t → AreAlike (session_from s came) (session_from t came)
-        × DoTheSame s t (session_from s came) (session_from t came) }
-{
-    an_order_leads_on();
-}
-
-/// A history stands in pieces, and the last begins with a head that tells what is there after the lines before it. A
-/// session goes on behind that piece, and heard the last lines of the pieces before: their orders and replies are all
-/// that there are, or with those of the piece at least 65,536. Then it is alike to a session behind all lines, as the
-/// law before this one wants, which itself may have heard `earlier` lines. Lines of heads count for nothing: neither the
-/// piece's own, nor those that it heard, if the piece before begins with some.
-pub fn the_last_lines_of_the_piece_before_are_enough()
-    ensures head { (head : Head) (parts : List StatePart) → spoken (head_lines head parts) ≡ [] }
-    ensures enough { (front heard rest : List Line)
-        → (spoken front ≡ []) ⊎ (65536 ≤ length (spoken (heard ++ rest))) → IsHeardEnough (front ++ heard) heard rest }
-    ensures recalled { (earlier before heard head rest : List Line) → spoken head ≡ []
-        → IsHeardEnough (earlier ++ before) heard rest → (unique : ℕ) (more : List Line)
-        → recalled unique (recent (heard ++ ((head ++ rest) ++ more)))
-        ≡ recalled unique (recent (earlier ++ ((before ++ rest) ++ more))) }
-    ensures alike { (rules : Rules) (earlier before heard head rest : List Line) → IsLegal rules before
-        → IsHead rules head → snapshot_of (state_after rules head) ≡ snapshot_of (state_after rules before)
-        → IsLegal rules (head ++ rest) → IsHeardEnough (earlier ++ before) heard rest
-        → AreAlike (session_behind rules earlier (before ++ rest) true)
-        (session_behind rules heard (head ++ rest) true) }
-{
-    a_legal_history_goes_on_by_orders();
-    a_history_can_be_cut();
-}

@@ -1,6 +1,8 @@
 pub mod AheadLemmas
+pub mod AlikeLemmas
 pub mod CutTexts
 pub mod EndingLemmas
+pub mod HeardLemmas
 pub mod Histories
 pub mod Listings
 pub mod RecordLemmas

@@ -26,6 +26,7 @@ pub mod laws;
 mod options;
 mod serve;
 mod serving;
+pub mod session_laws;
 mod trace_file;
 mod unused;
 

@@ -1,5 +1,5 @@
-use Rattle.fl_session.proofs.HeardLemmas.{behind_alike, head_unspoken, last_heard, recalls_alike}
-use Rattle.fl_session.proofs.laws.the_last_lines_of_the_piece_before_are_enough.Goals as goal
+use Rattle.lockd_serve.proofs.HeardLemmas.{behind_alike, head_unspoken, last_heard, recalls_alike}
+use Rattle.lockd_serve.proofs.session_laws.the_last_lines_of_the_piece_before_are_enough.Goals as goal
 
 pub returns : goal.returns
 returns c =

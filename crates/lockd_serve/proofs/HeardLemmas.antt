@@ -14,10 +14,14 @@ use Rattle.fl_history.specs.declared.history.Line.TheVariants as line
 use Rattle.fl_order.specs.declared.state_part.Head.{Head}
 use Rattle.fl_order.specs.declared.state_part.StateLine.TheVariants as state
 use Rattle.fl_order.specs.declared.state_part.StatePart.{StatePart}
-use Rattle.fl_session.proofs.RecallLemmas.{spoken_long}
-use Rattle.fl_session.specs.Alike.{AreAlike, IsHeardEnough}
+use Rattle.lockd_serve.specs.Alike.{AreAlike, IsHeardEnough}
 use Rattle.fl_session.specs.Session.{session_behind}
 use Rattle.fl_waiting.specs.declared.rules.Rules.{Rules}
+
+-- fl_session has the same, and another crate's lemma can't be used
+spoken_long : (front back : List Line) → length (spoken (front ++ back)) ≡ length (spoken front) + length (spoken back)
+spoken_long front back =
+    ap length (filter-append is_spoken front back) ∙ length-append (spoken front) (spoken back)
 
 -- ---- the last of a list
 

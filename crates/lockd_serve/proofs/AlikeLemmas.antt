@@ -14,7 +14,7 @@ use Rattle.fl_order.specs.Order.{kind_of}
 use Rattle.fl_order.specs.declared.order.Order.{Order}
 use Rattle.fl_order.specs.declared.told.Told.{Told}
 use Rattle.fl_session.specs.Again.{incoming_under, unmarked}
-use Rattle.fl_session.specs.Alike.{AreAlike, DoTheSame}
+use Rattle.lockd_serve.specs.Alike.{AreAlike, DoTheSame}
 use Rattle.fl_session.specs.Session.{Came, Session, recalled_in, session_from, with_again, with_either, with_incoming}
 use Rattle.fl_session.specs.Session.{with_message, with_order, with_orders, with_orders_again, with_recalled, with_refusal}
 use Rattle.fl_session.specs.Session.{with_response, with_step}
