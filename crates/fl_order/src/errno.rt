@@ -5,6 +5,8 @@ ghost use Rattle.std.specs.Prelude.{◌≡◌};
 /// An error of an answer, named as in Linux's `errno.h`.
 #[derive(Clone, Copy, Debug, PartialEq, Eq)]
 pub enum Errno {
+    /// Operation not permitted.
+    EPERM,
     /// No such file or directory.
     ENOENT,
     /// Interrupted.
@@ -25,6 +27,8 @@ pub enum Errno {
     EINVAL,
     /// Too many open files.
     ENFILE,
+    /// The file would be too large.
+    EFBIG,
     /// No space is left for a file.
     ENOSPC,
     /// The wait would close a circle.
@@ -37,6 +41,8 @@ pub enum Errno {
     ENOSYS,
     /// The message comes at the wrong time.
     EPROTO,
+    /// The file system can't do this.
+    EOPNOTSUPP,
 }
 
 impl Errno {
@@ -47,6 +53,7 @@ impl Errno {
         ensures { result ≡ number_of self }
     {
         match self {
+            Errno::EPERM => 1,
             Errno::ENOENT => 2,
             Errno::EINTR => 4,
             Errno::EBADF => 9,
@@ -57,12 +64,14 @@ impl Errno {
             Errno::EISDIR => 21,
             Errno::EINVAL => 22,
             Errno::ENFILE => 23,
+            Errno::EFBIG => 27,
             Errno::ENOSPC => 28,
             Errno::EDEADLK => 35,
             Errno::ENAMETOOLONG => 36,
             Errno::ENOLCK => 37,
             Errno::ENOSYS => 38,
             Errno::EPROTO => 71,
+            Errno::EOPNOTSUPP => 95,
         }
     }
 }

@@ -20,9 +20,9 @@ use Rattle.fl_order.specs.declared.body.Shape.{Shape}
 use Rattle.fl_order.specs.declared.body.Shape.TheVariants as shape
 use Rattle.fl_order.specs.declared.refusal.Refusal.{Refusal}
 use Rattle.fl_order.specs.declared.errno.Errno.{Errno}
-use Rattle.fl_order.specs.declared.errno.Errno.TheVariants.{ENOENT, EINTR, EBADF, EAGAIN, ENOMEM, EEXIST, ENOTDIR}
-use Rattle.fl_order.specs.declared.errno.Errno.TheVariants.{EISDIR, EINVAL, ENFILE, ENOSPC}
-use Rattle.fl_order.specs.declared.errno.Errno.TheVariants.{EDEADLK, ENAMETOOLONG, ENOLCK, ENOSYS, EPROTO}
+use Rattle.fl_order.specs.declared.errno.Errno.TheVariants.{EPERM, ENOENT, EINTR, EBADF, EAGAIN, ENOMEM, EEXIST}
+use Rattle.fl_order.specs.declared.errno.Errno.TheVariants.{ENOTDIR, EISDIR, EINVAL, ENFILE, EFBIG, ENOSPC, EDEADLK}
+use Rattle.fl_order.specs.declared.errno.Errno.TheVariants.{ENAMETOOLONG, ENOLCK, ENOSYS, EPROTO, EOPNOTSUPP}
 use Rattle.fl_order.specs.declared.kind.OpKind.{OpKind}
 use Rattle.fl_order.specs.declared.order.LockAsk.{LockAsk}
 use Rattle.fl_order.specs.declared.order.Op.{Op}
@@ -80,7 +80,7 @@ attr_of ws = record { node = number_at ws 1; mode = number_at ws 2; nlink = numb
 -- each error once
 abbrev pub all_errors : List Errno
 all_errors =
-    ENOENT ∷ EINTR ∷ EBADF ∷ EAGAIN ∷ ENOMEM ∷ EEXIST ∷ ENOTDIR ∷ EISDIR ∷ EINVAL ∷ ENFILE ∷ ENOSPC ∷ EDEADLK ∷ ENAMETOOLONG ∷ ENOLCK ∷ ENOSYS ∷ EPROTO ∷ []
+    EPERM ∷ ENOENT ∷ EINTR ∷ EBADF ∷ EAGAIN ∷ ENOMEM ∷ EEXIST ∷ ENOTDIR ∷ EISDIR ∷ EINVAL ∷ ENFILE ∷ EFBIG ∷ ENOSPC ∷ EDEADLK ∷ ENAMETOOLONG ∷ ENOLCK ∷ ENOSYS ∷ EPROTO ∷ EOPNOTSUPP ∷ []
 
 abbrev pub error_of : ℕ → Errno
 error_of number = unwrap_or (find (λ e. number_of e == number) all_errors) ENOENT

@@ -14,7 +14,8 @@ use fl_order::{Answer, Attr, Errno, Told};
 use fl_words::{number, split_word, u32_number, u32_word, u64_word};
 
 // Each error once.
-const ERRORS: [Errno; 16] = [
+const ERRORS: [Errno; 19] = [
+    Errno::EPERM,
     Errno::ENOENT,
     Errno::EINTR,
     Errno::EBADF,
@@ -25,12 +26,14 @@ const ERRORS: [Errno; 16] = [
     Errno::EISDIR,
     Errno::EINVAL,
     Errno::ENFILE,
+    Errno::EFBIG,
     Errno::ENOSPC,
     Errno::EDEADLK,
     Errno::ENAMETOOLONG,
     Errno::ENOLCK,
     Errno::ENOSYS,
     Errno::EPROTO,
+    Errno::EOPNOTSUPP,
 ];
 
 /// A reply; none if it has any other spelling.

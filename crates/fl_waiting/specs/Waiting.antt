@@ -46,11 +46,12 @@ wishes parked = filter_map wish_of parked
 
 -- ---- who waits
 
--- no request waits behind another, and there are at most 4096 runs of locked bytes, 256 parked requests, 256 files
--- and 1024 open files
+-- no request waits behind another, no session is whole, and there are at most 4096 runs of locked bytes, 256 parked
+-- requests, 256 files and 1024 open files
 abbrev pub standard : Rules
 standard = record {
   fair = false;
+  whole = false;
   runs = 4096;
   parked = 256;
   files = 256;

@@ -28,6 +28,10 @@ pub struct Rules {
     /// Whether a request for a record lock also waits behind an older one that waits: of another owner, on the same
     /// node, with a byte in common, if one of the two is for a write lock. Whole-file locks have no part in it.
     pub fair: bool,
+    /// Whether a session with one worker is *whole*: it also answers READDIR, STATFS and READ, and has errors of its
+    /// own for LINK, SYMLINK, RENAME and WRITE. Otherwise all are ENOSYS. No order is answered by it, so no trace names
+    /// it.
+    pub whole: bool,
     /// The most runs of locked bytes, over all files and both classes.
     pub runs: u32,
     /// The most parked requests at once.
@@ -54,6 +58,7 @@ impl Rules {
     {
         Rules {
             fair: false,
+            whole: false,
             runs: STANDARD_RUNS,
             parked: STANDARD_PARKED,
             files: STANDARD_FILES,
@@ -67,6 +72,21 @@ impl Rules {
     {
         Rules {
             fair,
+            whole: self.whole,
+            runs: self.runs,
+            parked: self.parked,
+            files: self.files,
+            open_files: self.open_files,
+        }
+    }
+
+    /// The same rules, for a whole session or not.
+    pub fn with_whole(self, whole: bool) -> Rules
+        ensures { result ≡ record self { whole = whole } }
+    {
+        Rules {
+            fair: self.fair,
+            whole,
             runs: self.runs,
             parked: self.parked,
             files: self.files,
@@ -79,7 +99,8 @@ impl Rules {
         ensures some { IsSome result ↔ (AllowsRuns runs × AllowsParked parked) }
         ensures is { IfSome result (λ rules. (rules.runs ≡ runs) × (rules.parked ≡ parked)) }
         ensures others { IfSome result (λ rules.
-            (rules.fair ≡ self.fair) × (rules.files ≡ self.files) × (rules.open_files ≡ self.open_files)) }
+            (rules.fair ≡ self.fair) × (rules.whole ≡ self.whole) × (rules.files ≡ self.files)
+            × (rules.open_files ≡ self.open_files)) }
     {
         if runs == 0 || runs > MOST_RUNS {
             return None;
@@ -89,6 +110,7 @@ impl Rules {
         }
         Some(Rules {
             fair: self.fair,
+            whole: self.whole,
             runs,
             parked,
             files: self.files,
@@ -101,7 +123,8 @@ impl Rules {
         ensures some { IsSome result ↔ (AllowsFiles files × AllowsOpen open_files) }
         ensures is { IfSome result (λ rules. (rules.files ≡ files) × (rules.open_files ≡ open_files)) }
         ensures others { IfSome result (λ rules.
-            (rules.fair ≡ self.fair) × (rules.runs ≡ self.runs) × (rules.parked ≡ self.parked)) }
+            (rules.fair ≡ self.fair) × (rules.whole ≡ self.whole) × (rules.runs ≡ self.runs)
+            × (rules.parked ≡ self.parked)) }
     {
         if files == 0 || files > MOST_FILES {
             return None;
@@ -111,6 +134,7 @@ impl Rules {
         }
         Some(Rules {
             fair: self.fair,
+            whole: self.whole,
             runs: self.runs,
             parked: self.parked,
             files,
