@@ -191,7 +191,7 @@ module _ {X : Type 0} where
       keeps
 
   -- an entry that a search finds stands above no smaller number
-  above_found : (k : ℕ) (t : (ℕ × X) → Bool) (es : List (ℕ × X)) (e : ℕ × X) → rising.below_all nat_cmp k es ≡ true → find t es ≡ Some e → k < e.0
+  pub above_found : (k : ℕ) (t : (ℕ × X) → Bool) (es : List (ℕ × X)) (e : ℕ × X) → rising.below_all nat_cmp k es ≡ true → find t es ≡ Some e → k < e.0
   above_found k t [] e above is = absurd (none-some e is)
   above_found k t (f ∷ es) e above is = go (t f) (above_found k t es e (second_so (is_lt (nat_cmp k f.0)) (rising.below_all nat_cmp k es) above)) is
     where

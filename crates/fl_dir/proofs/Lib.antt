@@ -5,6 +5,7 @@ pub mod Entries
 pub mod Forgets
 pub mod Kept
 pub mod Listed
+pub mod Next
 pub mod Numbers
 pub mod Restored
 pub mod Spread

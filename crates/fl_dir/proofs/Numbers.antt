@@ -12,7 +12,7 @@ use Rattle.std.specs.FinMap as map
 use Rattle.fl_arena.specs.Chains.{Chains, item_count}
 use Rattle.fl_dir.specs.Inside.Numbers.{Numbers, AreAbove, AreNumbered, has_place}
 use Rattle.fl_dir.specs.Arenas.{values_on}
-use Rattle.fl_dir.specs.Inside.Spread.{at, IsAltered}
+use Rattle.fl_dir.specs.Inside.Spread.{at, IsAltered, IsSpread}
 use Rattle.fl_dir.proofs.Spread.{same_key, none_of, some_of, counted, get_only, each_altered, none_at, none_sorted, chains_made}
 
 pub below_limit : (most n : ℕ) (t : Bool) → (nat_le most n || t) ≡ false → n < most
@@ -40,6 +40,16 @@ module _ {X : Type 0} where
 
   pub as_many : (a : Chains (ℕ × X)) (mask next : ℕ) → AreNumbered a mask next → map.len (values_on a) ≡ item_count a
   as_many a mask next kept = counted a kept.sorted (λ c d q x y p r. sym (kept.home c q x p) ∙ kept.home d q y r)
+
+  pub is_spread : (a : Chains (ℕ × X)) (mask next : ℕ) → AreNumbered a mask next → IsSpread a (values_on a)
+  is_spread a mask next kept = record {
+    sorted = kept.sorted;
+    own = λ c q x is. get_at a mask next q c kept (sym (kept.home c q x is)) ∙ is;
+    there = λ q x is. (
+      bit_and q mask,
+      (in_range a mask next q (bit_and q mask) kept refl, sym (get_at a mask next q (bit_and q mask) kept refl) ∙ is),
+    );
+  }
 
   pub altered_numbers : (a b : Chains (ℕ × X)) (mask next next1 k c : ℕ) (w : Option X) → AreNumbered a mask next → IsAltered a b c k w
       → c ≡ bit_and k mask → next ≤ next1 → ((x : X) → w ≡ Some x → k < next1) → AreNumbered b mask next1

@@ -248,8 +248,8 @@ impl Dir {
         Ok(Closed { node, last })
     }
 
-    // Why the node has no names in it.
-    fn directory_error(&self, node: u64) -> Option<Errno>
+    /// Why the node has no names in it: it is unknown (ENOENT), or a file (ENOTDIR).
+    pub fn directory_error(&self, node: u64) -> Option<Errno>
         ensures { result ≡ directory_error self.now node }
     {
         if !self.is_known(node) {

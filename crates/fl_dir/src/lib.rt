@@ -10,6 +10,7 @@ mod arenas;
 mod chain;
 mod dir;
 mod files;
+mod listing;
 mod names;
 mod naming;
 mod node;

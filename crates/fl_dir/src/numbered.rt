@@ -1,5 +1,5 @@
 //! Values under numbers that only grow.
-ghost use Rattle.std.specs.Prelude.{◌≡◌, ◌+◌, ◌≤◌, ◌^◌, ℕ, None, Some, IfOk, IsSome, length, true, false};
+ghost use Rattle.std.specs.Prelude.{◌≡◌, ◌+◌, ◌-◌, ◌≤◌, ◌^◌, ℕ, None, Some, IfOk, IsSome, length, true, false};
 ghost use Rattle.std.specs.FinMap as map;
 ghost use Rattle.std.specs.Option.{option_copied};
 ghost use Rattle.std.specs.Borrow.{Lends, sem};
@@ -8,6 +8,7 @@ ghost use Rattle.std.specs.Int.Bits.{bit_and};
 ghost use Rattle.fl_arena.specs.Chains.{IsLinked};
 ghost use Rattle.fl_dir.specs.Arenas.{values_on};
 ghost use Rattle.fl_dir.specs.Inside.Numbers.{has_place, is_full, with_value, IsHome};
+ghost use Rattle.fl_dir.specs.Inside.Spread.{IsSpread};
 
 use crate::chain::{push, put, seek, take_out, value_at};
 use fl_arena::Arena;
@@ -105,6 +106,7 @@ impl<T: Copy> Numbered<T> {
     pub(crate) fn arena(&self) -> (&Arena<(u64, T)>, usize)
         ensures values { values_on result.0.now ≡ self.now.values }
         ensures home { IsHome result.0.now self.now }
+        ensures spread { IsSpread result.0.now self.now.values }
         ensures chains { result.1 ≡ length result.0.now.chains }
         ensures linked { IsLinked result.0.now }
     {
@@ -124,6 +126,13 @@ impl<T: Copy> Numbered<T> {
         ensures { result ≡ is_full self.now }
     {
         self.entries.free() == 0 || self.next == u64::MAX
+    }
+
+    /// How many more values there may be.
+    pub(crate) fn free(&self) -> usize
+        ensures { result ≡ self.now.limit - map.len self.now.values }
+    {
+        self.entries.free()
     }
 
     /// Puts a value under the next number, which it tells.

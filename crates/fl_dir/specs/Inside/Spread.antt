@@ -1,7 +1,7 @@
 -- How values are kept under numbers: on several chains, each number on one of them. The numbers of a chain rise.
-use Rattle.std.specs.Prelude.{◌≡◌, ◌≢◌, ℕ, true, Option, Some, if◌then◌else◌}
+use Rattle.std.specs.Prelude.{◌≡◌, ◌≢◌, ◌<◌, ℕ, true, length, Option, Some, if◌then◌else◌}
 use Rattle.std.specs.Ordering.{nat_cmp, eq_by_cmp}
-use Rattle.std.specs.FinMap.{is_sorted, find}
+use Rattle.std.specs.FinMap.{FinMap, get, is_sorted, find}
 use Rattle.fl_arena.specs.Chains.{Chains, entries, items, HasSizeOf}
 
 module _ {X : Type 0} where
@@ -16,6 +16,12 @@ module _ {X : Type 0} where
   -- this is so of each chain, number and value there
   abbrev pub IsEach : (ℕ → ℕ → X → Type 0) → Chains (ℕ × X) → Type 0
   IsEach P a = (c q : ℕ) (x : X) → at a c q ≡ Some x → P c q x
+
+  -- these values stand on the chains, each on one that is there, and no others
+  pub record IsSpread (a : Chains (ℕ × X)) (m : FinMap nat_cmp X) : Type 0 where
+    pub sorted : AreSorted a
+    pub own : IsEach (λ c q x. get m q ≡ Some x) a
+    pub there : (q : ℕ) (x : X) → get m q ≡ Some x → (c : ℕ) × ((c < length a.chains) × (at a c q ≡ Some x))
 
   -- one chain has another value at a number, or none, and all else is as it was
   pub record IsAltered (a b : Chains (ℕ × X)) (c k : ℕ) (w : Option X) : Type 0 where
