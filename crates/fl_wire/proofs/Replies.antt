@@ -12,7 +12,7 @@ use Rattle.fl_wire.proofs.Appending.{length-attr, length-entry, length-open, len
 use Rattle.fl_wire.specs.Init.{init_spelling, agreed_bytes, again_bytes}
 use Rattle.fl_wire.specs.Layout.{field, number_at, out_header}
 use Rattle.fl_wire.specs.Spell.{header_bytes, answer_bytes, entry_bytes, open_bytes, reply_bytes, spelling_of, minus}
-use Rattle.fl_wire.specs.Spell.{IsReply}
+use Rattle.fl_wire.specs.Spell.{statfs_bytes, statfs_spelling, IsReply}
 use Rattle.fl_wire.specs.declared.init.InitStep.{InitStep}
 use Rattle.fl_wire.specs.declared.init.InitStep.TheVariants.{Refused, Again, Agreed}
 
@@ -22,7 +22,7 @@ unfolding number_at
 len-append xs ys long = sym (little_from-take 0 4 (length xs) (xs ++ ys) long) ∙ ap (little_from 0 4) (take_at xs ys (length xs) refl)
 
 -- a header with the body that it tells of
-length-header : (body error unique : ℕ) → length (header_bytes body error unique) ≡ 16
+pub length-header : (body error unique : ℕ) → length (header_bytes body error unique) ≡ 16
 unfolding header_bytes
 length-header body error unique = refl
 
@@ -38,6 +38,11 @@ with_body body error unique bytes long few =
     let says = len-append (header_bytes body error unique) bytes (omega (arith, head)) ∙ len-header body error unique few in
     let all = length-append (header_bytes body error unique) bytes in
     record { whole = omega (arith, says, all, head, long); header = omega (arith, all, head); bounded = omega (arith, all, head, long) }
+
+-- no reply with so small a body is longer than that to a CREATE
+few_bytes : (body error unique : ℕ) (bytes : List ℕ) → length bytes ≤ 144 → length (header_bytes body error unique ++ bytes) ≤ 160
+few_bytes body error unique bytes few =
+    omega (arith, length-append (header_bytes body error unique) bytes, length-header body error unique)
 
 without_body : (error unique : ℕ) → IsReply (header_bytes 0 error unique)
 without_body error unique = subst IsReply (append-nil (header_bytes 0 error unique)) (with_body 0 error unique [] refl (omega arith))
@@ -58,6 +63,13 @@ result_is_reply unique (Err e) = without_body (minus e) unique
 pub told_is_reply : (told : Told) → IsReply (spelling_of told)
 told_is_reply told = result_is_reply told.unique told.result
 
+result_few : (unique : ℕ) (result : Result Answer Errno) → length (reply_bytes unique result) ≤ 160
+result_few unique (Ok answer) = few_bytes (length (answer_bytes answer)) 0 unique (answer_bytes answer) (answer_few answer)
+result_few unique (Err e) = omega (arith, length-header 0 (minus e) unique)
+
+pub told_few : (told : Told) → length (spelling_of told) ≤ 160
+told_few told = result_few told.unique told.result
+
 length-again : length again_bytes ≡ 64
 unfolding again_bytes
 length-again = refl
@@ -70,3 +82,18 @@ pub init_is_reply : (unique : ℕ) (step : InitStep) → IsReply (init_spelling 
 init_is_reply unique (Refused e) = without_body (minus e) unique
 init_is_reply unique Again = with_body 64 0 unique again_bytes length-again (omega arith)
 init_is_reply unique (Agreed max_readahead flags) = with_body 64 0 unique (agreed_bytes max_readahead flags) (length-agreed max_readahead flags) (omega arith)
+
+pub init_few : (unique : ℕ) (step : InitStep) → length (init_spelling unique step) ≤ 160
+init_few unique (Refused e) = omega (arith, length-header 0 (minus e) unique)
+init_few unique Again = few_bytes 64 0 unique again_bytes (omega (arith, length-again))
+init_few unique (Agreed max_readahead flags) = few_bytes 64 0 unique (agreed_bytes max_readahead flags) (omega (arith, length-agreed max_readahead flags))
+
+length-statfs : (files free : ℕ) → length (statfs_bytes files free) ≡ 80
+unfolding statfs_bytes
+length-statfs files free = refl
+
+pub statfs_is_reply : (unique files free : ℕ) → IsReply (statfs_spelling unique files free)
+statfs_is_reply unique files free = with_body 80 0 unique (statfs_bytes files free) (length-statfs files free) (omega arith)
+
+pub statfs_few : (unique files free : ℕ) → length (statfs_spelling unique files free) ≤ 160
+statfs_few unique files free = few_bytes 80 0 unique (statfs_bytes files free) (omega (arith, length-statfs files free))

@@ -66,6 +66,10 @@ create_in = 4 ∷ 4 ∷ 4 ∷ 4 ∷ []
 abbrev pub lk_in : List ℕ
 lk_in = 8 ∷ 8 ∷ 8 ∷ 8 ∷ 4 ∷ 4 ∷ 4 ∷ 4 ∷ []
 
+-- struct fuse_read_in: fh, offset, size, read_flags, lock_owner, flags, padding
+abbrev pub read_in : List ℕ
+read_in = 8 ∷ 8 ∷ 4 ∷ 4 ∷ 8 ∷ 4 ∷ 4 ∷ []
+
 -- struct fuse_batch_forget_in: count, dummy
 abbrev pub batch_forget_in : List ℕ
 batch_forget_in = 4 ∷ 4 ∷ []
@@ -103,6 +107,15 @@ open_out = 8 ∷ 4 ∷ 4 ∷ []
 -- struct fuse_lk_out, a struct fuse_file_lock: start, end, type, pid
 abbrev pub lk_out : List ℕ
 lk_out = 8 ∷ 8 ∷ 4 ∷ 4 ∷ []
+
+-- struct fuse_dirent, up to its name: ino, off, namelen, type
+abbrev pub dirent : List ℕ
+dirent = 8 ∷ 8 ∷ 4 ∷ 4 ∷ []
+
+-- struct fuse_statfs_out, a struct fuse_kstatfs: blocks, bfree, bavail, files, ffree, bsize, namelen, frsize, padding,
+-- and six spare words
+abbrev pub statfs_out : List ℕ
+statfs_out = 8 ∷ 8 ∷ 8 ∷ 8 ∷ 8 ∷ 4 ∷ 4 ∷ 4 ∷ 4 ∷ 4 ∷ 4 ∷ 4 ∷ 4 ∷ 4 ∷ 4 ∷ []
 
 -- struct fuse_init_out, up to its unused bytes: major, minor, max_readahead, flags, max_background,
 -- congestion_threshold, max_write, time_gran

@@ -5,8 +5,10 @@ pub mod Cut
 pub mod Frame
 pub mod Init
 pub mod Layout
+pub mod Listing
 pub mod Message
 pub mod Says
 pub mod Single
 pub mod Spell
 pub mod Stream
+pub mod Whole

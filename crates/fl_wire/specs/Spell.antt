@@ -6,7 +6,7 @@ use Rattle.fl_order.specs.declared.told.Answer.{Answer}
 use Rattle.fl_order.specs.declared.told.Answer.TheVariants.{Done, Entry, Attr, Open, Made, Lock}
 use Rattle.fl_order.specs.declared.told.Attr.{Attr as Attributes}
 use Rattle.fl_order.specs.declared.told.Told.{Told}
-use Rattle.fl_wire.specs.Layout.{field, laid_out, out_header, attr, entry_out, attr_out, open_out, lk_out}
+use Rattle.fl_wire.specs.Layout.{field, laid_out, out_header, attr, entry_out, attr_out, open_out, lk_out, statfs_out}
 
 -- the attributes of a node: its number, mode, links, owner and group, blocks of 4096 bytes, and zeros
 unfoldable pub attr_bytes : Attributes → List ℕ
@@ -52,8 +52,18 @@ reply_bytes unique (Err e) = header_bytes 0 (minus e) unique
 abbrev pub spelling_of : Told → List ℕ
 spelling_of told = reply_bytes told.unique told.result
 
--- a whole reply: as many bytes as its first field says, from 16 (a header alone) to 160
+-- the room of a STATFS's reply: how many files there may be and how many of them are free, blocks of 4096 bytes, of
+-- which there are none, and the longest name
+unfoldable pub statfs_bytes : ℕ → ℕ → List ℕ
+statfs_bytes files free =
+    laid_out statfs_out (0 ∷ 0 ∷ 0 ∷ files ∷ free ∷ 4096 ∷ 255 ∷ 4096 ∷ 0 ∷ 0 ∷ 0 ∷ 0 ∷ 0 ∷ 0 ∷ 0 ∷ [])
+
+-- the bytes of a STATFS's reply
+abbrev pub statfs_spelling : ℕ → ℕ → ℕ → List ℕ
+statfs_spelling unique files free = header_bytes 80 0 unique ++ statfs_bytes files free
+
+-- a whole reply: as many bytes as its first field says, from 16 (a header alone) to 4112
 pub record IsReply (reply : List ℕ) : Type 0 where
   pub whole : field out_header 0 0 reply ≡ length reply
   pub header : 16 ≤ length reply
-  pub bounded : length reply ≤ 160
+  pub bounded : length reply ≤ 4112

@@ -22,8 +22,8 @@ pub(crate) fn make_room(out: &mut Vec<u8>, count: usize) -> Result<(), NoMemory>
     Ok(())
 }
 
-// Appends bytes.
-fn push_bytes(out: &mut Vec<u8>, bytes: &[u8])
+/// Appends bytes.
+pub(crate) fn push_bytes(out: &mut Vec<u8>, bytes: &[u8])
     requires { vec_len out.old + length bytes.now ≤ vec_capacity out.old }
     ensures items { out.new.items ≡ out.old.items ++ bytes.now }
     ensures len { vec_len out.new ≡ vec_len out.old + length bytes.now }

@@ -1,6 +1,6 @@
 //! The agreement at the start of a session: what an INIT results in, and the reply to it.
 
-ghost use Rattle.std.specs.Prelude.{◌≡◌, ◌+◌, ◌≤◌, ◌++◌, IsOk, OnErr, OnOk, vec_len, vec_capacity};
+ghost use Rattle.std.specs.Prelude.{◌≡◌, ◌+◌, ◌≤◌, ◌++◌, length, IsOk, OnErr, OnOk, vec_len, vec_capacity};
 ghost use Rattle.fl_wire.specs.Append.{Appends};
 ghost use Rattle.fl_wire.specs.Init.{again_bytes, agreed_bytes, init_spelling, init_step};
 ghost use Rattle.fl_wire.specs.Spell.{IsReply};
@@ -75,6 +75,7 @@ pub fn read_init(frame: &Frame) -> InitStep
 pub fn write_init(unique: u64, step: &InitStep, out: &mut Vec<u8>) -> Result<(), NoMemory>
     ensures ok { OnOk result (out.new.items ≡ out.old.items ++ init_spelling unique step.now) }
     ensures reply { IsReply (init_spelling unique step.now) }
+    ensures most { length (init_spelling unique step.now) ≤ 160 }
     ensures err { OnErr result (out.new.items ≡ out.old.items) }
     ensures room { vec_len out.old + 80 ≤ vec_capacity out.old → IsOk result }
     ensures in_place { vec_len out.old + 80 ≤ vec_capacity out.old → vec_capacity out.new ≡ vec_capacity out.old }

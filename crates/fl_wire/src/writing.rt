@@ -3,7 +3,7 @@
 ghost use Rattle.std.specs.Prelude.{◌≡◌, ◌+◌, ◌≤◌, ◌++◌, length, IsOk, OnErr, OnOk, vec_len, vec_capacity};
 ghost use Rattle.fl_wire.specs.Append.{Appends};
 ghost use Rattle.fl_wire.specs.Spell.{answer_bytes, attr_bytes, entry_bytes, header_bytes, lock_bytes, minus};
-ghost use Rattle.fl_wire.specs.Spell.{open_bytes, reply_bytes, spelling_of, IsReply};
+ghost use Rattle.fl_wire.specs.Spell.{open_bytes, reply_bytes, statfs_bytes, statfs_spelling, spelling_of, IsReply};
 
 use crate::append::{make_room, push_u32, push_u64, push_zeros};
 use fl_order::{Answer, Attr, Errno, NoMemory, Told};
@@ -11,11 +11,15 @@ use fl_order::{Answer, Attr, Errno, NoMemory, Told};
 // The size of blocks that attributes tell, in bytes.
 const BLOCK_SIZE: u32 = 4096;
 
+// The most bytes of a name.
+const NAME_BYTES: u32 = 255;
+
 /// Appends the bytes of a reply: at most 160. An `Err` changes nothing, and doesn't come if there is
 /// room for 160 more bytes; no memory is taken then.
 pub fn write_told(told: &Told, out: &mut Vec<u8>) -> Result<(), NoMemory>
     ensures ok { OnOk result (out.new.items ≡ out.old.items ++ spelling_of told.now) }
     ensures reply { IsReply (spelling_of told.now) }
+    ensures most { length (spelling_of told.now) ≤ 160 }
     ensures err { OnErr result (out.new.items ≡ out.old.items) }
     ensures room { vec_len out.old + 160 ≤ vec_capacity out.old → IsOk result }
     ensures in_place { vec_len out.old + 160 ≤ vec_capacity out.old → vec_capacity out.new ≡ vec_capacity out.old }
@@ -52,6 +56,23 @@ pub(crate) fn write_error(unique: u64, e: Errno, out: &mut Vec<u8>) -> Result<()
 {
     make_room(out, 16)?;
     push_header(out, 0, minus(e), unique);
+    Ok(())
+}
+
+/// Appends the reply to a STATFS: how many files there may be, and how many of these are free. An `Err` changes
+/// nothing, and doesn't come if there is room for 96 more bytes; no memory is taken then.
+pub fn write_statfs(unique: u64, files: u64, free: u64, out: &mut Vec<u8>) -> Result<(), NoMemory>
+    ensures ok { OnOk result (out.new.items ≡ out.old.items ++ statfs_spelling unique files free) }
+    ensures reply { IsReply (statfs_spelling unique files free) }
+    ensures most { length (statfs_spelling unique files free) ≤ 160 }
+    ensures err { OnErr result (out.new.items ≡ out.old.items) }
+    ensures room { vec_len out.old + 96 ≤ vec_capacity out.old → IsOk result }
+    ensures in_place { vec_len out.old + 96 ≤ vec_capacity out.old → vec_capacity out.new ≡ vec_capacity out.old }
+    ensures capacity { vec_capacity out.old ≤ vec_capacity out.new }
+{
+    make_room(out, 96)?;
+    push_header(out, 80, 0, unique);
+    push_statfs(out, files, free);
     Ok(())
 }
 
@@ -170,4 +191,19 @@ fn push_attr(out: &mut Vec<u8>, attr: Attr)
     push_zeros(out, 4);
     push_u32(out, BLOCK_SIZE);
     push_zeros(out, 4);
+}
+
+// Appends the room of a STATFS's reply. There are no blocks.
+fn push_statfs(out: &mut Vec<u8>, files: u64, free: u64)
+    requires { vec_len out.old + 80 ≤ vec_capacity out.old }
+    ensures items { Appends out.old.items (statfs_bytes files free) out.new.items }
+    ensures capacity { vec_capacity out.new ≡ vec_capacity out.old }
+{
+    push_zeros(out, 24);
+    push_u64(out, files);
+    push_u64(out, free);
+    push_u32(out, BLOCK_SIZE);
+    push_u32(out, NAME_BYTES);
+    push_u32(out, BLOCK_SIZE);
+    push_zeros(out, 28);
 }
