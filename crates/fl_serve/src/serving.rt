@@ -1,4 +1,4 @@
-//! A whole session of the FUSE protocol with workers, over any reader and any writer.
+//! A session of the FUSE protocol with workers, over any reader and any writer.
 
 ghost use Rattle.std.specs.Prelude.{◌≡◌, ◌≢◌, ◌≤◌, ◌<◌, ◌+◌, ◌⊎◌, [], IfSome, IsSome, None, Some, false, true};
 ghost use Rattle.std.specs.Io.KnownBytes.{Keeps};
@@ -23,7 +23,7 @@ use std::sync::Wait;
 use std::sync::ledger::Blank;
 use std::thread::Threads;
 
-/// Serves a whole session with 1 to 16 workers, under these rules. The reader, which is the caller's thread, answers
+/// Serves a session to its end with 1 to 16 workers, under these rules. The reader, which is the caller's thread, answers
 /// what is no order; each order goes to a worker, which looks for it at one board or hands it in there, and sends all
 /// its replies, each whole. Replies that are ready go out together. All memory is made, but that of the history and of
 /// new copies for looks, and all workers are started, before the first read. At the stream's end, at a fault of the

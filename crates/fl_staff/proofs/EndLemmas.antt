@@ -23,7 +23,7 @@ use Rattle.fl_staff.specs.declared.staff.Served.{Served}
 use Rattle.fl_transport.specs.Collecting.{IsGiven, Outgoing}
 use Rattle.fl_transport.specs.Streams.{Streams}
 use Rattle.fl_transport.specs.declared.response.Response.{Response}
-use Rattle.fl_transport.specs.declared.response.Response.TheVariants.{Nothing, Init, One, Replies}
+use Rattle.fl_transport.specs.declared.response.Response.TheVariants.{Nothing, Init, One, Replies, Whole}
 use Rattle.fl_wire.specs.Spell.{IsReply}
 use Rattle.fl_workers.specs.Received.{answer_by}
 use Rattle.fl_workers.specs.Sent.{spelled}
@@ -85,6 +85,7 @@ words Nothing some = absurd (some refl)
 words (Init unique step) some = refl
 words (One told) some = refl
 words (Replies tolds) some = refl
+words (Whole unique ask) some = refl
 
 -- a goodbye was given
 pub goodbye_given : (log log_now : List ReplyEntry) (own mine : Appended ReplyEntry) (goodbye : Response) (said : Bool)

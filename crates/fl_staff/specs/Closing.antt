@@ -4,7 +4,7 @@ use Rattle.fl_log.specs.Appended.{Appended, HasAll}
 use Rattle.fl_log.specs.Growing.{Grows}
 use Rattle.fl_transport.specs.Collecting.{IsGiven, Outgoing}
 use Rattle.fl_transport.specs.declared.response.Response.{Response}
-use Rattle.fl_transport.specs.declared.response.Response.TheVariants.{Nothing, Init, One, Replies}
+use Rattle.fl_transport.specs.declared.response.Response.TheVariants.{Nothing}
 use Rattle.fl_workers.specs.Received.{answer_by}
 use Rattle.fl_workers.specs.Sent.{entries_of, spelled}
 use Rattle.fl_workers.specs.declared.entry.ReplyEntry.{ReplyEntry}
@@ -12,9 +12,7 @@ use Rattle.fl_workers.specs.declared.entry.ReplyEntry.{ReplyEntry}
 -- what is said last, if anything is
 abbrev pub last_words : Response → List Response
 last_words Nothing = []
-last_words (Init unique step) = Init unique step ∷ []
-last_words (One told) = One told ∷ []
-last_words (Replies tolds) = Replies tolds ∷ []
+last_words response = response ∷ []
 
 -- these entries were appended through the same appender
 pub record HasGrown (old new : Appended ReplyEntry) (more : List ReplyEntry) : Type 0 where

@@ -1,4 +1,4 @@
-//! A whole session with workers, but for its history: it is proved for every `Counter`, and no board is named here.
+//! A session with workers to its end, but for its history: it is proved for every `Counter`, and no board is named here.
 //!
 //! `serve_at` makes what a session needs beside its counter, runs its workers, hands in what none of them took, and
 //! says goodbye. Its caller knows what the counter's history is. Contracts let through a `serve_at`

@@ -1,4 +1,4 @@
-//! A whole session with workers, over any counter, any reader and any writer.
+//! A session with workers to its end, over any counter, any reader and any writer.
 
 ghost use Rattle.std.specs.Prelude.{◌≡◌, ◌≤◌, ◌<◌, ◌+◌, All, IfErr, IfOk, map};
 ghost use Rattle.std.specs.List.{range_with_len};
@@ -23,7 +23,7 @@ use std::sync::ledger::Blank;
 use std::sync::{Mutex, Wait};
 use std::thread::Threads;
 
-/// Serves a whole session at this counter, whose seats these are, one for each worker of the staff. All memory but the
+/// Serves a session to its end at this counter, whose seats these are, one for each worker of the staff. All memory but the
 /// counter's is made, and all workers are started, before the first read. Orders that were read are all handled, also
 /// those that no worker took, and only then is a DESTROY answered. If it can't begin, nothing is read, and the counter
 /// is dropped.

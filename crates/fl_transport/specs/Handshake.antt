@@ -1,6 +1,7 @@
 -- How far its messages bring a session, and what each message is to it (Linux `fuse.h`, protocol 7.31).
 use Rattle.std.specs.Prelude.{ℕ, Bool, true, false, List, fold, Option, None, Some, Result, Ok, Err, if◌then◌else◌}
 use Rattle.fl_order.specs.OpKind.{kind_of_opcode}
+use Rattle.fl_order.specs.declared.errno.Errno.{Errno}
 use Rattle.fl_order.specs.declared.errno.Errno.TheVariants.{EPROTO}
 use Rattle.fl_order.specs.declared.kind.OpKind.{OpKind}
 use Rattle.fl_order.specs.declared.kind.OpKind.TheVariants as kinds
@@ -12,13 +13,15 @@ use Rattle.fl_transport.specs.declared.handshake.Handshake.{Handshake}
 use Rattle.fl_transport.specs.declared.handshake.Incoming.{Incoming}
 use Rattle.fl_transport.specs.declared.handshake.Incoming.TheVariants as incoming
 use Rattle.fl_transport.specs.declared.response.Response.{Response}
-use Rattle.fl_transport.specs.declared.response.Response.TheVariants.{Nothing, Init}
+use Rattle.fl_transport.specs.declared.response.Response.TheVariants.{Nothing, Init, Whole}
 use Rattle.fl_wire.specs.Batch.{forgets_in}
 use Rattle.fl_wire.specs.Init.{init_step}
 use Rattle.fl_wire.specs.Layout.{opcode_of, unique_of}
 use Rattle.fl_wire.specs.Says.{said}
+use Rattle.fl_wire.specs.Whole.{whole_ask}
 use Rattle.fl_wire.specs.declared.init.InitStep.{InitStep}
 use Rattle.fl_wire.specs.declared.init.InitStep.TheVariants.{Refused, Again, Agreed}
+use Rattle.fl_wire.specs.declared.whole.WholeAsk.{WholeAsk}
 
 -- no message came yet
 abbrev pub opening : Handshake
@@ -61,11 +64,16 @@ own_answer message (Some kinds.Init) = Init (unique_of message) (init_step messa
 own_answer message (Some kind) = refusal_of kind (unique_of message) EPROTO
 own_answer message None = error_to (unique_of message) EPROTO
 
+-- the answer to a message that is refused with this error, unless a whole session answers it otherwise
+abbrev pub refused : List ℕ → Errno → Option WholeAsk → Response
+refused message e None = error_to (unique_of message) e
+refused message e (Some ask) = Whole (unique_of message) ask
+
 -- What a message that says this is after an INIT is agreed: an order, a batch of them, or the session itself answers
 -- it.
 abbrev pub incoming_by : List ℕ → Result Order Refusal → Incoming
 incoming_by message (Ok order) = incoming.Order order
-incoming_by message (Err (Answer e)) = incoming.Response (error_to (unique_of message) e)
+incoming_by message (Err (Answer e)) = incoming.Response (refused message e (whole_ask message))
 incoming_by message (Err Silent) = incoming.Response Nothing
 incoming_by message (Err Batch) = incoming.Batch (forgets_in message)
 incoming_by message (Err Destroy) = incoming.Response (goodbye_to message)

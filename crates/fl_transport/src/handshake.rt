@@ -3,10 +3,11 @@
 ghost use Rattle.std.specs.Prelude.{◌≡◌, true, false};
 ghost use Rattle.fl_order.specs.OpKind.{kind_of_opcode};
 ghost use Rattle.fl_transport.specs.Handshake.{advanced, agrees, incoming_of, incoming_by, opening, own_answer};
-ghost use Rattle.fl_transport.specs.Handshake.{says_destroy};
+ghost use Rattle.fl_transport.specs.Handshake.{refused, says_destroy};
 ghost use Rattle.fl_transport.specs.Response.{goodbye_to};
 ghost use Rattle.fl_wire.specs.Layout.{opcode_of};
 ghost use Rattle.fl_wire.specs.Says.{said};
+ghost use Rattle.fl_wire.specs.Whole.{whole_ask};
 
 use crate::response::Response;
 use fl_order::{Answer, Errno, OpKind, Refusal, Told};
@@ -85,7 +86,7 @@ impl Handshake {
     {
         match frame.single() {
             Ok(order) => Incoming::Order(order),
-            Err(Refusal::Answer(e)) => Incoming::Response(Response::error(frame.unique(), e)),
+            Err(Refusal::Answer(e)) => Incoming::Response(refused(frame, e)),
             Err(Refusal::Silent) => Incoming::Response(Response::Nothing),
             Err(Refusal::Batch) => match frame.batch() {
                 Some(orders) => Incoming::Batch(orders),
@@ -99,5 +100,15 @@ impl Handshake {
                 }))
             }
         }
+    }
+}
+
+// The answer to a message that is refused with this error, unless a whole session answers it otherwise.
+fn refused(frame: &Frame, e: Errno) -> Response<'static>
+    ensures { result ≡ refused frame.now e (whole_ask frame.now) }
+{
+    match frame.whole() {
+        Some(ask) => Response::Whole(frame.unique(), ask),
+        None => Response::error(frame.unique(), e),
     }
 }

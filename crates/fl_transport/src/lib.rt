@@ -12,6 +12,7 @@
 mod fault;
 mod handshake;
 mod inbox;
+pub mod laws;
 mod outbox;
 mod reply_batch;
 mod reply_buffer;
@@ -23,4 +24,4 @@ pub use inbox::{Filled, Inbox};
 pub use outbox::{Broken, Outbox};
 pub use reply_batch::ReplyBatch;
 pub use reply_buffer::ReplyBuffer;
-pub use response::Response;
+pub use response::{Response, unserved};

@@ -9,7 +9,7 @@ ghost use Rattle.fl_transport.specs.Response.{bytes_of};
 
 use crate::outbox::Outbox;
 use crate::reply_buffer::ReplyBuffer;
-use crate::response::Response;
+use crate::response::{Response, unserved};
 use fl_order::Told;
 use fl_wire::InitStep;
 use std::io::Write;
@@ -24,7 +24,8 @@ pub struct ReplyBatch<'a, W> {
 }
 
 impl<W: Write> ReplyBatch<'_, W> {
-    /// Collects what a message is answered. If there is no more room, what was collected before goes out.
+    /// Collects what a message or an order is answered; what whole sessions alone serve is ENOSYS. If there is no more
+    /// room, what was collected before goes out.
     pub fn collect(&mut self, response: &Response)
         ensures same { (writer_of self.new.out).ghost_name ≡ (writer_of self.old.out).ghost_name }
         ensures collected { Collects (outgoing W.contents self.old) (outgoing W.contents self.new)
@@ -35,6 +36,7 @@ impl<W: Write> ReplyBatch<'_, W> {
             Response::Init(unique, step) => self.collect_init(*unique, step),
             Response::One(told) => self.collect_one(told),
             Response::Replies(tolds) => self.collect_all(tolds),
+            Response::Whole(unique, _) => self.collect_one(&unserved(*unique)),
         }
     }
 
@@ -68,7 +70,7 @@ impl<W: Write> ReplyBatch<'_, W> {
         }
     }
 
-    /// Collects a reply if there is room for any, and says whether it did. Nothing is written.
+    /// Collects a reply if there is room for any but a list, and says whether it did. Nothing is written.
     pub fn append(&mut self, told: &Told) -> bool
         ensures same { (writer_of self.new.out).ghost_name ≡ (writer_of self.old.out).ghost_name }
         ensures held { W.contents (writer_of self.new.out).now ≡ W.contents (writer_of self.old.out).now }

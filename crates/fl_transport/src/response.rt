@@ -1,10 +1,10 @@
 //! What a message is answered.
 
 ghost use Rattle.std.specs.Prelude.{◌≡◌};
-ghost use Rattle.fl_transport.specs.Response.{error_to, lost, refusal_of, without_memory};
+ghost use Rattle.fl_transport.specs.Response.{error_to, lost, refusal_of, unserved, without_memory};
 
 use fl_order::{Errno, OpKind, Told};
-use fl_wire::InitStep;
+use fl_wire::{InitStep, WholeAsk};
 
 /// What a message is answered.
 #[derive(Clone, Copy, Debug)]
@@ -17,6 +17,8 @@ pub enum Response<'a> {
     One(Told),
     /// The replies of an order, none or several.
     Replies(&'a [Told]),
+    /// What a whole session answers to the message with this unique. Any other answers ENOSYS.
+    Whole(u64, WholeAsk),
 }
 
 impl<'a> Response<'a> {
@@ -46,6 +48,16 @@ impl<'a> Response<'a> {
             unique,
             result: Err(e),
         })
+    }
+}
+
+/// The reply to a message of this unique that a session doesn't serve.
+pub fn unserved(unique: u64) -> Told
+    ensures { result ≡ unserved unique }
+{
+    Told {
+        unique,
+        result: Err(Errno::ENOSYS),
     }
 }
 

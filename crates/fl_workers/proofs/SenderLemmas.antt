@@ -5,7 +5,7 @@ use Rattle.fl_order.specs.declared.told.Told.{Told}
 use Rattle.fl_transport.specs.Collecting.{Collects, IsGiven, Outgoing}
 use Rattle.fl_transport.specs.Response.{bytes_of}
 use Rattle.fl_transport.specs.declared.response.Response.{Response}
-use Rattle.fl_transport.specs.declared.response.Response.TheVariants.{Nothing, Init, One, Replies}
+use Rattle.fl_transport.specs.declared.response.Response.TheVariants.{Nothing, Init, One, Replies, Whole}
 use Rattle.fl_workers.specs.Sent.{entry, replies_of, replies_to, spelled, spelling}
 use Rattle.fl_workers.specs.declared.entry.ReplyEntry.{ReplyEntry}
 use Rattle.fl_wire.specs.Spell.{spelling_of}
@@ -25,6 +25,7 @@ spelled_response Nothing = refl
 spelled_response (Init unique step) = refl
 spelled_response (One t) = refl
 spelled_response (Replies tolds) = spelled_tolds tolds.now
+spelled_response (Whole unique ask) = refl
 
 -- the bytes of a log with one entry more
 spelled_more : (log : List ReplyEntry) (author : ℕ) (response : Response)

@@ -5,8 +5,9 @@ use Rattle.fl_log.specs.Appended.{Appended, entries_by}
 use Rattle.fl_log.specs.Growing.{Grows}
 use Rattle.fl_order.specs.declared.told.Told.{Told}
 use Rattle.fl_transport.specs.Collecting.{Outgoing}
+use Rattle.fl_transport.specs.Response.{unserved}
 use Rattle.fl_transport.specs.declared.response.Response.{Response}
-use Rattle.fl_transport.specs.declared.response.Response.TheVariants.{Nothing, Init, One, Replies}
+use Rattle.fl_transport.specs.declared.response.Response.TheVariants.{Nothing, Init, One, Replies, Whole}
 use Rattle.fl_wire.specs.Init.{init_spelling}
 use Rattle.fl_wire.specs.Spell.{spelling_of}
 use Rattle.fl_workers.specs.declared.entry.Reply.{Reply}
@@ -22,12 +23,13 @@ spelling (reply.Told told) = spelling_of told
 abbrev pub replies_to : List Told → List Reply
 replies_to tolds = map (λ told. reply.Told told) tolds
 
--- the replies of a response
+-- the replies of a response: with several workers none is that of a whole session, whatever the rules are
 abbrev pub replies_of : Response → List Reply
 replies_of Nothing = []
 replies_of (Init unique step) = reply.Init unique step ∷ []
 replies_of (One told) = replies_to (told ∷ [])
 replies_of (Replies tolds) = replies_to tolds.now
+replies_of (Whole unique ask) = replies_to (unserved unique ∷ [])
 
 -- replies that this author gave at once
 abbrev pub entry : ℕ → List Reply → ReplyEntry

@@ -436,7 +436,7 @@ pub(crate) fn flush<R: Wait, W: Write, N: WriterName>(
 fn notify<G: Gate>(gate: &G, response: &Response) {
     match response {
         Response::Nothing => {}
-        Response::Init(unique, _) => gate.sent(*unique),
+        Response::Init(unique, _) | Response::Whole(unique, _) => gate.sent(*unique),
         Response::One(told) => gate.sent(told.unique),
         Response::Replies(tolds) => {
             for told in *tolds {
