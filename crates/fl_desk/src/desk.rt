@@ -110,7 +110,8 @@ impl<J: Journal> Desk<J> {
 
     /// What is there now.
     pub fn present(&self) -> &Core
-        ensures { result.now ≡ self.now.present }
+        ensures is { result.now ≡ self.now.present }
+        ensures kept { IsKept self.now.lines self.now.present }
     {
         &self.present
     }

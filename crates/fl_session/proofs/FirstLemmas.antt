@@ -1,16 +1,18 @@
 -- Sessions that know messages that are sent again, beside those that don't, and sessions that answered something
 -- before.
 use Rattle.std.proofs.Common.{◌≡◌, ℕ, Bool, true, false, List, [], ◌∷◌, ◌++◌, drop, map, Option, None, Some}
-use Rattle.std.proofs.Common.{refl, sym, ap, ◌∙◌, append_assoc}
+use Rattle.std.proofs.Common.{refl, sym, ap, ◌∙◌, append_assoc, arith}
 use Rattle.std.specs.Prelude.{◌^◌, nat_le, if◌then◌else◌}
 use Rattle.std.proofs.lemmas.Grind.{fold-append}
 use Rattle.fl_core.specs.Step.{replies_in}
 use Rattle.fl_desk.specs.Replay.{state_after}
+use Rattle.fl_dir.specs.Directory.{Listing}
 use Rattle.fl_history.specs.declared.history.Line.{Line}
 use Rattle.fl_history.specs.declared.recent.Recalled.{Recalled}
 use Rattle.fl_history.specs.declared.recent.Recalled.TheVariants as recall
 use Rattle.fl_order.specs.OpKind.{kind_of_opcode}
 use Rattle.fl_order.specs.Order.{kind_of}
+use Rattle.fl_order.specs.declared.kind.OpKind.{OpKind}
 use Rattle.fl_order.specs.declared.kind.OpKind.TheVariants as kinds
 use Rattle.fl_order.specs.declared.order.Order.{Order}
 use Rattle.fl_session.proofs.LaterLemmas.{plain_is}
@@ -21,6 +23,7 @@ use Rattle.fl_session.specs.AsOne.{AllPlain}
 use Rattle.fl_session.specs.Once.{resumed, under_way}
 use Rattle.fl_session.specs.Session.{Came, Session, session_behind, session_from, session_of, with_again, with_either, with_incoming}
 use Rattle.fl_session.specs.Session.{opening_session, recalled_in, with_message, with_order, with_orders, with_recalled, with_response}
+use Rattle.fl_session.specs.Whole.{bytes_in, bytes_when}
 use Rattle.fl_transport.specs.Handshake.{advanced, agrees, incoming_of, is_agreed, opening, own_answer}
 use Rattle.fl_transport.specs.Response.{bytes_of, lost}
 use Rattle.fl_transport.specs.declared.handshake.Incoming.{Incoming}
@@ -108,7 +111,7 @@ orders_behind a s (o ∷ orders) (first ∷ refused) =
 
 response_behind : (a : List (List ℕ)) (s : Session) (response : Response)
     → with_response (behind a s) response ≡ behind a (with_response s response)
-response_behind a s response = λ i. record s { replies = append_assoc a s.replies (bytes_of response) i }
+response_behind a s response = λ i. record s { replies = append_assoc a s.replies (bytes_in s.rules s.lines response) i }
 
 incoming_behind : (a : List (List ℕ)) (s : Session) (refused : List Bool) (it : Incoming)
     → with_incoming (behind a s) refused it ≡ behind a (with_incoming s refused it)
@@ -167,11 +170,20 @@ waiting rules heard base knows sent = record (session_behind rules heard base kn
 abbrev answer_to : Came → List (List ℕ)
 answer_to c = bytes_of (own_answer c.message (kind_of_opcode (opcode_of c.message)))
 
+-- and that isn't told from what is there
+own_bytes : (rules : Rules) (d : Listing) (message : List ℕ) (kind : Option OpKind)
+    → bytes_when rules d (own_answer message kind) ≡ bytes_of (own_answer message kind)
+own_bytes rules d message None = refl
+own_bytes rules d message (Some kind) = grind arith
+
 one_early : (rules : Rules) (heard base : List Line) (knows : Bool) (sent : List (List ℕ)) (c : Came)
     → nat_le (2 ^ 63) (unique_of c.message) ≡ false → agrees c.message (kind_of_opcode (opcode_of c.message)) ≡ false
     → with_message (waiting rules heard base knows sent) c ≡ waiting rules heard base knows (sent ++ answer_to c)
 one_early rules heard base knows sent c plain early =
     plain_is (waiting rules heard base knows sent) c plain
+    ∙ ap (λ bytes. record (waiting rules heard base knows (sent ++ bytes)) {
+      handshake = record { agreed = agrees c.message (kind_of_opcode (opcode_of c.message)); over = false };
+    }) (own_bytes rules (state_after rules base).view.directory c.message (kind_of_opcode (opcode_of c.message)))
     ∙ ap (λ b. record (waiting rules heard base knows (sent ++ answer_to c)) { handshake = record { agreed = b; over = false } }) early
 
 agreed_on : (s : Session) (came : List Came) → s.handshake.agreed ≡ true → (session_from s came).handshake.agreed ≡ true

@@ -21,8 +21,8 @@ use Rattle.fl_session.specs.AsOne.{AreAsOne, replies_again, reply_again, reply_i
 use Rattle.fl_session.specs.Known.{HaveBatch, HaveNothing, HaveOrder, HaveReply, IsBatchAgain, IsOf, IsOrderAgain}
 use Rattle.fl_session.specs.Once.{ComesAgain, IsUnknown, SaysTheSame, has_all, is_had, orders_in}
 use Rattle.fl_session.specs.Session.{Came, Session, recalled_in}
+use Rattle.fl_session.specs.Whole.{bytes_in}
 use Rattle.fl_transport.specs.Handshake.{incoming_by, says_destroy}
-use Rattle.fl_transport.specs.Response.{bytes_of}
 use Rattle.fl_transport.specs.declared.handshake.Incoming.{Incoming}
 use Rattle.fl_transport.specs.declared.handshake.Incoming.TheVariants as incoming
 use Rattle.fl_transport.specs.declared.response.Response.{Response}
@@ -219,18 +219,18 @@ reply_comes_again s again c told h came order =
     (subst (λ l. Contains l (spelling_of told)) (sym one) (0, omega arith, refl))
 
 under_own : (s : Session) (unique : ℕ) (it : Incoming) (response : Response)
-    → incoming_under unique it ≡ incoming.Response response → reply_again s unique it ≡ bytes_of response
+    → incoming_under unique it ≡ incoming.Response response → reply_again s unique it ≡ bytes_in s.rules s.lines response
 under_own s unique (incoming.Order order) response e = absurd (cc e)
 under_own s unique (incoming.Batch orders) response e = absurd (cc e)
 under_own s unique (incoming.Response r) response e =
-    let is : response_under unique r ≡ response = cc e in ap bytes_of is
+    let is : response_under unique r ≡ response = cc e in ap (bytes_in s.rules s.lines) is
 
 pub answer_comes_again : (s : Session) (again : List Came) (c m : Came) (response : Response) (reply : List ℕ)
     → SaysTheSame c.message m.message → incoming_by c.message (said c.message) ≡ incoming.Response response
-    → Contains (bytes_of response) reply → Contains again m → Contains (replies_again s again) reply
+    → Contains (bytes_in s.rules s.lines response) reply → Contains again m → Contains (replies_again s again) reply
 answer_comes_again s again c m response reply same own in_it came =
     let f = λ (c : Came). reply_unmarked s (unmarked true (unique_of c.message)) (incoming_by c.message (said c.message)) in
-    let one : f m ≡ bytes_of response =
+    let one : f m ≡ bytes_in s.rules s.lines response =
     ap (λ mark. reply_unmarked s mark (incoming_by m.message (said m.message))) same.mark
     ∙ under_own s (unique_of c.message) (incoming_by m.message (said m.message)) response (same.says ∙ own) in
     flat_contains f again m reply came (subst (λ l. Contains l reply) (sym one) in_it)

@@ -5,6 +5,7 @@ pub mod CutLemmas
 pub mod FirstLemmas
 pub mod KnownLemmas
 pub mod LaterLemmas
+pub mod ListLemmas
 pub mod MarkLemmas
 pub mod MeetLemmas
 pub mod NewLemmas

@@ -7,19 +7,22 @@ use Rattle.std.proofs.lemmas.Bool.{le-leb}
 use Rattle.fl_order.specs.OpKind.{kind_of_opcode, shape_for}
 use Rattle.fl_order.specs.declared.body.Shape.{Shape}
 use Rattle.fl_order.specs.declared.body.Shape.TheVariants as shape
+use Rattle.fl_order.specs.declared.errno.Errno.{Errno}
 use Rattle.fl_order.specs.declared.kind.OpKind.{OpKind}
 use Rattle.fl_order.specs.declared.order.Op.{Op}
 use Rattle.fl_order.specs.declared.order.Op.TheVariants.{Forget}
 use Rattle.fl_order.specs.declared.refusal.Refusal.{Refusal}
 use Rattle.fl_order.specs.declared.refusal.Refusal.TheVariants.{Answer, Silent, Batch, Destroy}
-use Rattle.fl_session.specs.Again.{incoming_under, order_under, unmarked}
+use Rattle.fl_session.specs.Again.{incoming_under, order_under, response_under, unmarked}
 use Rattle.fl_session.specs.Known.{with_mark}
 use Rattle.fl_session.specs.Once.{SaysTheSame}
-use Rattle.fl_transport.specs.Handshake.{incoming_by, says_destroy}
+use Rattle.fl_transport.specs.Handshake.{incoming_by, refused, says_destroy}
 use Rattle.fl_transport.specs.declared.handshake.Incoming.TheVariants as incoming
 use Rattle.fl_wire.specs.Batch.{forget_at, is_batch}
 use Rattle.fl_wire.specs.Layout.{number_at, opcode_of, unique_of}
 use Rattle.fl_wire.specs.Says.{asked, asked_by, asked_with, body_in, order_of, said}
+use Rattle.fl_wire.specs.Whole.{whole_ask}
+use Rattle.fl_wire.specs.declared.whole.WholeAsk.{WholeAsk}
 
 -- the first bytes of a header, up to the last of its unique
 record Front : Type 0 where
@@ -118,6 +121,17 @@ batch_same : (x : Front) (rest : List ℕ) → is_batch (marked x rest) ≡ is_b
 unfolding number_at
 batch_same x rest = refl
 
+-- ---- what it asks of a whole session
+
+ask_same : (x : Front) (rest : List ℕ) → whole_ask (marked x rest) ≡ whole_ask (plain x rest)
+unfolding number_at
+ask_same x rest = refl
+
+refused_same : (m n : List ℕ) (e : Errno) (asked : Option WholeAsk)
+    → response_under (unique_of n) (refused m e asked) ≡ refused n e asked
+refused_same m n e None = refl
+refused_same m n e (Some asked) = refl
+
 -- ---- what it says
 
 abbrev op_in : Front → List ℕ → Result Op Refusal
@@ -137,7 +151,9 @@ says_by : (x : Front) (rest : List ℕ) (batch : Bool) (op : Result Op Refusal)
 unfolding number_at
 says_by x rest true op = ap incoming.Batch (forgets_same x rest _)
 says_by x rest false (Ok op) = refl
-says_by x rest false (Err (Answer e)) = refl
+says_by x rest false (Err (Answer e)) =
+    ap (λ asked. incoming.Response (response_under (unique_of (plain x rest)) (refused (marked x rest) e asked))) (ask_same x rest)
+    ∙ ap incoming.Response (refused_same (marked x rest) (plain x rest) e (whole_ask (plain x rest)))
 says_by x rest false (Err Silent) = refl
 says_by x rest false (Err Batch) = ap incoming.Batch (forgets_same x rest _)
 says_by x rest false (Err Destroy) = refl

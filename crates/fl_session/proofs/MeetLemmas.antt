@@ -11,10 +11,10 @@ use Rattle.fl_session.specs.Inside.Serving.{session_with, AreTaken, AreTakenAgai
 use Rattle.fl_session.specs.Inside.UnderWay.{TakesMany, TakesOne}
 use Rattle.fl_session.specs.Again.{incoming_under, unmarked}
 use Rattle.fl_session.specs.Session.{Session, with_again, with_either, with_message, with_orders, with_orders_again, with_response}
+use Rattle.fl_session.specs.Whole.{bytes_in}
 use Rattle.fl_session.specs.declared.server.Server.{Server}
 use Rattle.fl_transport.specs.Collecting.{IsGiven, Outgoing}
 use Rattle.fl_transport.specs.Handshake.{advanced, incoming_of}
-use Rattle.fl_transport.specs.Response.{bytes_of}
 use Rattle.fl_transport.specs.declared.handshake.Handshake.{Handshake}
 use Rattle.fl_transport.specs.declared.handshake.Incoming.{Incoming}
 use Rattle.fl_transport.specs.declared.handshake.Incoming.TheVariants as incoming
@@ -81,7 +81,8 @@ pub met_by_itself : {K : Type 0} (old : Server K) (desk : Book) (handshake : Han
     → unmarked (is_some old.recent) (unique_of message) ≡ marked
     → ((s : Session) → with_either s marked [] it ≡ with_response s response)
     → desk.lines ≡ old.desk.lines → desk.present ≡ old.desk.present
-    → IsMet old (record old { desk = desk; handshake = handshake }) (bytes_of response) message
+    → IsMet old (record old { desk = desk; handshake = handshake }) (bytes_in old.desk.present.rules old.desk.lines response)
+    message
 met_by_itself old desk handshake it marked response message live is there mark answers lines present = record {
   refused = [];
   is = λ before. rw (lines, present)

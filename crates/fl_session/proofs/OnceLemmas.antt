@@ -18,6 +18,7 @@ use Rattle.fl_session.specs.AsOne.{AreAsOne, IsSentAgain, replies_again, reply_a
 use Rattle.fl_session.specs.Once.{AllComeAgain, AreNew, ComesAgain, IsUnknown, SaysTheSame, has_all, is_had, orders_in, resumed, under_way}
 use Rattle.fl_session.specs.Session.{Came, Session, opening_session, recalled_in, session_from, session_of, with_again, with_either, with_incoming}
 use Rattle.fl_session.specs.Session.{with_message, with_order, with_orders, with_orders_again, with_recalled, with_response}
+use Rattle.fl_session.specs.Whole.{bytes_in}
 use Rattle.fl_transport.specs.Handshake.{advanced, incoming_by, incoming_of, says_destroy}
 use Rattle.fl_transport.specs.Response.{bytes_of, lost}
 use Rattle.fl_transport.specs.declared.handshake.Handshake.{Handshake}
@@ -243,8 +244,9 @@ new_by waits found s orders refused free none = rw (free, none) refl
 pub response_goes : (a b : List (List ℕ)) (s t : Session) (response : Response) → GoAlike a b s t
     → GoAlike a b (with_response s response) (with_response t response)
 response_goes a b s t response g =
-    grown a b s t (with_response s response) (with_response t response) (bytes_of response) _ g
-    (record { rules = g.alike.rules; heard = g.alike.heard; handshake = g.alike.handshake; lines = g.alike.lines }) refl refl refl
+    grown a b s t (with_response s response) (with_response t response) (bytes_in s.rules s.lines response) _ g
+    (record { rules = g.alike.rules; heard = g.alike.heard; handshake = g.alike.handshake; lines = g.alike.lines }) refl refl
+    (λ i. bytes_in (g.alike.rules i) (g.alike.lines i) response)
 
 new_orders : (a b : List (List ℕ)) (s t : Session) (unique : ℕ) (orders : List Order) (refused : List Bool) → GoAlike a b s t
     → IsUnknown t unique → GoAlike a b (with_orders_again s unique orders refused) (with_orders t orders refused)
@@ -374,7 +376,7 @@ as_one first other one again g = record {
   };
 }
 
--- ---- a whole session
+-- ---- a session to its end
 
 pub goes_on_as_one : (rules : Rules) (taken again unread marked : List Came)
     → IsSentAgain (session_of rules taken) again unread marked

@@ -1,4 +1,4 @@
--- What a whole session did.
+-- What a session did.
 use Rattle.std.proofs.Common.{◌≡◌, ℕ, Bool, true, false, List, [], ◌∷◌, Option, None, Some, refl, sym, ap, subst}
 use Rattle.std.proofs.Common.{append-nil, length, length-append, ◌∙◌, arith}
 use Rattle.std.proofs.lemmas.List.Elements.{All-nil}

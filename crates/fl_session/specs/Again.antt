@@ -5,7 +5,7 @@ use Rattle.fl_order.specs.declared.order.Order.{Order}
 use Rattle.fl_transport.specs.declared.handshake.Incoming.{Incoming}
 use Rattle.fl_transport.specs.declared.handshake.Incoming.TheVariants as incoming
 use Rattle.fl_transport.specs.declared.response.Response.{Response}
-use Rattle.fl_transport.specs.declared.response.Response.TheVariants.{Nothing, Init, One, Replies}
+use Rattle.fl_transport.specs.declared.response.Response.TheVariants.{Nothing, Init, One, Replies, Whole}
 
 -- The unique without its mark, if it is that of a message that is sent again: these have bit 63 set. A session knows
 -- such messages, or doesn't.
@@ -22,6 +22,7 @@ response_under unique Nothing = Nothing
 response_under unique (Init marked step) = Init unique step
 response_under unique (One told) = One (record told { unique = unique })
 response_under unique (Replies tolds) = Replies tolds
+response_under unique (Whole marked ask) = Whole unique ask
 
 -- what a message is to a session, under this unique
 abbrev pub incoming_under : ℕ → Incoming → Incoming

@@ -9,8 +9,8 @@ use Rattle.fl_order.specs.declared.refusal.Refusal.TheVariants.{Batch}
 use Rattle.fl_session.specs.Again.{response_under, unmarked}
 use Rattle.fl_session.specs.Once.{AllComeAgain, AreNew, IsUnknown, SaysTheSame, resumed, under_way}
 use Rattle.fl_session.specs.Session.{Came, Session, recalled_in, with_orders}
+use Rattle.fl_session.specs.Whole.{bytes_in}
 use Rattle.fl_transport.specs.Handshake.{incoming_by}
-use Rattle.fl_transport.specs.Response.{bytes_of}
 use Rattle.fl_transport.specs.declared.handshake.Incoming.{Incoming}
 use Rattle.fl_transport.specs.declared.handshake.Incoming.TheVariants as incoming
 use Rattle.fl_waiting.specs.Waiting.{is_parked}
@@ -37,7 +37,7 @@ reply_had s unique =
 abbrev pub reply_again : Session → ℕ → Incoming → List (List ℕ)
 reply_again s unique (incoming.Order order) = reply_had s unique
 reply_again s unique (incoming.Batch orders) = reply_had s unique
-reply_again s unique (incoming.Response response) = bytes_of (response_under unique response)
+reply_again s unique (incoming.Response response) = bytes_in s.rules s.lines (response_under unique response)
 
 -- the same of a message that has this unique without its mark, if it has a mark
 abbrev pub reply_unmarked : Session → Option ℕ → Incoming → List (List ℕ)

@@ -8,3 +8,4 @@ pub mod Once
 pub mod Recorded
 pub mod Served
 pub mod Session
+pub mod Whole

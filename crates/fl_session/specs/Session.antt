@@ -12,6 +12,7 @@ use Rattle.fl_order.specs.Order.{kind_of}
 use Rattle.fl_order.specs.declared.order.Order.{Order}
 use Rattle.fl_order.specs.declared.told.Told.{Told}
 use Rattle.fl_session.specs.Again.{incoming_under, unmarked}
+use Rattle.fl_session.specs.Whole.{bytes_in}
 use Rattle.fl_transport.specs.Handshake.{advanced, incoming_of, opening}
 use Rattle.fl_transport.specs.Response.{bytes_of, lost}
 use Rattle.fl_transport.specs.declared.handshake.Handshake.{Handshake}
@@ -61,9 +62,9 @@ session_behind rules heard base resends =
 abbrev pub recalled_in : Session → ℕ → Recalled
 recalled_in s unique = recalled unique (recent (s.heard ++ s.lines))
 
--- this is answered
+-- this is answered, perhaps from what is there
 abbrev pub with_response : Session → Response → Session
-with_response s response = record s { replies = s.replies ++ bytes_of response }
+with_response s response = record s { replies = s.replies ++ bytes_in s.rules s.lines response }
 
 -- an order that worker 0 handed in, with the replies that it gets
 abbrev pub with_step : Session → Order → List Told → Session
@@ -72,7 +73,8 @@ with_step s order tolds =
 
 -- An order for which memory ran out gets its error, or is lost if no reply is owed to it.
 abbrev pub with_refusal : Session → Order → Session
-with_refusal s order = record (with_response s (lost (kind_of order.op) order.unique)) { refused = true }
+with_refusal s order =
+    record s { replies = s.replies ++ bytes_of (lost (kind_of order.op) order.unique); refused = true }
 
 -- an order gets the replies of the lock directory, or is refused because memory ran out
 abbrev pub with_order : Session → Bool → Order → Session
@@ -102,7 +104,7 @@ with_orders_again s unique orders refused =
     if is_parked unique (state_after s.rules s.lines).view.parked then s
     else with_recalled s (recalled_in s unique) orders refused
 
--- a message of this unique is sent again; the session itself answers as it did
+-- a message of this unique is sent again; what is no order is answered anew
 abbrev pub with_again : Session → ℕ → List Bool → Incoming → Session
 with_again s unique refused (incoming.Order order) = with_orders_again s unique (order ∷ []) refused
 with_again s unique refused (incoming.Batch orders) = with_orders_again s unique orders refused

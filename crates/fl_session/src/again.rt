@@ -36,5 +36,6 @@ pub(crate) fn response_under(unique: u64, response: &Response<'static>) -> Respo
         Response::Init(_, step) => Response::Init(unique, step),
         Response::One(told) => Response::One(Told { unique, ..told }),
         Response::Replies(tolds) => Response::Replies(tolds),
+        Response::Whole(_, ask) => Response::Whole(unique, ask),
     }
 }

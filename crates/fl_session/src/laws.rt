@@ -26,8 +26,8 @@ ghost use Rattle.fl_session.specs.Known.{IsBatchAgain, IsOrderAgain, with_mark};
 ghost use Rattle.fl_session.specs.Once.{AllComeAgain, AreNew, ComesAgain, IsUnknown, SaysTheSame, resumed, under_way};
 ghost use Rattle.fl_session.specs.Session.{Came, Session, session_behind, session_from, session_of, with_message};
 ghost use Rattle.fl_session.specs.Session.{with_orders};
+ghost use Rattle.fl_session.specs.Whole.{bytes_in};
 ghost use Rattle.fl_transport.specs.Handshake.{incoming_by, is_agreed, opening, says_destroy};
-ghost use Rattle.fl_transport.specs.Response.{bytes_of};
 ghost use Rattle.fl_transport.specs.declared.handshake.Incoming.TheVariants as incoming;
 ghost use Rattle.fl_transport.specs.declared.response.Response.{Response};
 ghost use Rattle.fl_waiting.specs.Waiting.{is_parked};
@@ -173,15 +173,15 @@ pub fn later_messages_are_as_in_one_session()
 {}
 
 /// The reply to an order whose unique no other line has, if it is among the last 65,536 orders and replies of the lines
-/// of a session and those that it heard before, is sent again to its message. So is what the session itself answered to
-/// a message.
+/// of a session and those that it heard before, is sent again to its message. So is what the session itself answers to
+/// a message, from what is there by then if it is whole.
 pub fn a_reply_is_sent_again()
     ensures stored { (s : Session) (again : List Came) (c : Came) (told : Told) → HaveReply (s.heard ++ s.lines) told
         → Contains again c → IsOrderAgain told.unique c.message
         → Contains (replies_again s again) (spelling_of told) }
-    ensures own { (s : Session) (again : List Came) (c same : Came) (response : Response) (reply : List ℕ)
+    ensures own { (s : Session) (again : List Came) (c same : Came) (response : Response) (r : List ℕ)
         → SaysTheSame c.message same.message → incoming_by c.message (said c.message) ≡ incoming.Response response
-        → Contains (bytes_of response) reply → Contains again same → Contains (replies_again s again) reply }
+        → Contains (bytes_in s.rules s.lines response) r → Contains again same → Contains (replies_again s again) r }
 {}
 
 /// A session has the order of a message if its reply is among the last 65,536 orders and replies of its lines and those

@@ -25,6 +25,7 @@ mod replying;
 mod room;
 mod server;
 mod session;
+mod whole;
 
 pub use done::Done;
 pub use fl_transport::{Broken, Fault, Outbox};

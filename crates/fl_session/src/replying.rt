@@ -11,7 +11,7 @@ ghost use Rattle.fl_wire.specs.Spell.{spelling_of};
 use fl_desk::Desk;
 use fl_history::Journal;
 use fl_order::Told;
-use fl_transport::{ReplyBatch, Response};
+use fl_transport::{ReplyBatch, Response, unserved};
 use fl_wire::InitStep;
 use std::io::Write;
 use std::marker::PhantomData;
@@ -45,7 +45,7 @@ impl<W: Write, J: Journal> Replying<'_, W, J> {
         }
     }
 
-    /// Collects what a message is answered. If there is no more room, what was collected before goes out.
+    /// Collects what an order, or any session, answers. If there is no more room, what was collected before goes out.
     pub(crate) fn collect(&mut self, desk: &mut Desk<J>, response: &Response)
         ensures same { (writer_of self.new.batch.out).ghost_name ≡ (writer_of self.old.batch.out).ghost_name }
         ensures desk { (desk.new.lines ≡ desk.old.lines) × (desk.new.present ≡ desk.old.present) }
@@ -59,6 +59,7 @@ impl<W: Write, J: Journal> Replying<'_, W, J> {
             Response::Init(unique, step) => self.collect_init(desk, *unique, step),
             Response::One(told) => self.collect_one(desk, told),
             Response::Replies(tolds) => self.collect_all(desk, tolds),
+            Response::Whole(unique, _) => self.collect_one(desk, &unserved(*unique)),
         }
     }
 
@@ -118,6 +119,7 @@ impl<W: Write, J: Journal> Replying<'_, W, J> {
             }
             Response::One(told) => self.keep_one(told),
             Response::Replies(tolds) => self.keep_all(tolds),
+            Response::Whole(unique, _) => self.keep_one(&unserved(*unique)),
         }
     }
 

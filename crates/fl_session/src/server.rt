@@ -92,7 +92,7 @@ impl<J: Journal> Server<J> {
                 self.take(replying, &order);
             }
             Incoming::Batch(orders) => self.take_all(replying, orders),
-            Incoming::Response(response) => replying.collect(&mut self.desk, response),
+            Incoming::Response(response) => replying.respond(&mut self.desk, response),
         }
     }
 
@@ -119,7 +119,7 @@ impl<J: Journal> Server<J> {
             }
             Incoming::Batch(orders) => self.take_rest(replying, orders, unique),
             Incoming::Response(response) => {
-                replying.collect(&mut self.desk, &response_under(unique, response));
+                replying.respond(&mut self.desk, &response_under(unique, response));
             }
         }
     }

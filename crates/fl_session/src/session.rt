@@ -1,4 +1,4 @@
-//! A whole session of the FUSE protocol with one worker, over any reader and any writer.
+//! A session of the FUSE protocol with one worker, over any reader and any writer.
 
 ghost use Rattle.std.specs.Prelude.{◌≡◌, ◌≢◌, ◌⊎◌, ◌++◌, Bool, true, false, [], Option, None, Some, IfSome, IsSome, IsTrue};
 ghost use Rattle.std.specs.Prelude.{is_some};
@@ -33,7 +33,7 @@ pub struct Ended {
     pub broken: bool,
 }
 
-/// Serves a whole session in this thread, under these rules: each message is answered when it is whole. Replies are
+/// Serves a session to its end in this thread, under these rules: each message is answered when it is whole. Replies are
 /// collected, and go out together when their room is full, before each read, and at the end. All memory but that of
 /// the history is made before the first read. A read that fails ends the session, and so does a DESTROY after an INIT
 /// is agreed. After a write that failed it goes on, and writes no more.

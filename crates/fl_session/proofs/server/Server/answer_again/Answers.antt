@@ -3,8 +3,8 @@ use Rattle.fl_order.specs.declared.order.Order.{Order}
 use Rattle.fl_session.proofs.MeetLemmas.{met_again, met_by_itself}
 use Rattle.fl_session.specs.Again.{order_under, response_under}
 use Rattle.fl_session.specs.Inside.UnderWay.{TakesAgain}
+use Rattle.fl_session.specs.Whole.{bytes_in}
 use Rattle.fl_transport.specs.Collecting.{outgoing, Collects}
-use Rattle.fl_transport.specs.Response.{bytes_of}
 use Rattle.fl_transport.specs.declared.handshake.Incoming.TheVariants as incoming
 use Rattle.fl_transport.specs.declared.response.Response.{Response}
 use Rattle.fl_session.proofs.server.Server.answer_again.Goals as goal
@@ -41,12 +41,12 @@ pub returns-in-Response-clause-answered : goal.returns-in-Response-clause-answer
 returns-in-Response-clause-answered g c =
     let under : Response = response_under c.args.unique c.in-Response.response in
     let P : Response → Type 0 = λ r. Collects (outgoing g.W.Write.contents c.args.replying.now.batch)
-    (outgoing g.W.Write.contents c.collect.new.self.batch) (bytes_of r) in
+    (outgoing g.W.Write.contents c.respond.new.self.batch) (bytes_in c.args.self.now.desk.present.rules c.args.self.now.desk.lines r) in
     record {
-      replies = bytes_of under;
-      met = met_by_itself c.args.self.now c.collect.new.desk c.receive.new.self (incoming.Response c.in-Response.response)
+      replies = bytes_in c.args.self.now.desk.present.rules c.args.self.now.desk.lines under;
+      met = met_by_itself c.args.self.now c.respond.new.desk c.receive.new.self (incoming.Response c.in-Response.response)
           (Some c.args.unique) under c.args.frame.now c.requires.live (sym c.receive.ensures.incoming ∙ c.in-Response.is)
-          c.receive.ensures.advanced c.requires.again (λ s. refl) c.collect.ensures.desk.0 c.collect.ensures.desk.1;
-      collected = subst P c.response_under.ensures c.collect.ensures.collected;
-      behind = c.collect.ensures.behind;
+          c.receive.ensures.advanced c.requires.again (λ s. refl) c.respond.ensures.desk.0 c.respond.ensures.desk.1;
+      collected = subst P c.response_under.ensures c.respond.ensures.collected;
+      behind = c.respond.ensures.behind;
     }

@@ -2,8 +2,8 @@ use Rattle.std.proofs.Common.{inl, sym, subst, refl, None, ◌∙◌}
 use Rattle.fl_order.specs.declared.order.Order.{Order}
 use Rattle.fl_session.proofs.MeetLemmas.{met_batch, met_by_itself, met_order}
 use Rattle.fl_session.specs.Inside.UnderWay.{TakesOne}
+use Rattle.fl_session.specs.Whole.{bytes_in}
 use Rattle.fl_transport.specs.Collecting.{outgoing}
-use Rattle.fl_transport.specs.Response.{bytes_of}
 use Rattle.fl_transport.specs.declared.handshake.Incoming.TheVariants as incoming
 use Rattle.fl_session.proofs.server.Server.answer_new.Goals as goal
 
@@ -33,10 +33,10 @@ returns-in-Batch-clause-answered g c =
 
 pub returns-in-Response-clause-answered : goal.returns-in-Response-clause-answered
 returns-in-Response-clause-answered g c = record {
-  replies = bytes_of c.in-Response.response;
-  met = met_by_itself c.args.self.now c.collect.new.desk c.receive.new.self (incoming.Response c.in-Response.response) None
+  replies = bytes_in c.args.self.now.desk.present.rules c.args.self.now.desk.lines c.in-Response.response;
+  met = met_by_itself c.args.self.now c.respond.new.desk c.receive.new.self (incoming.Response c.in-Response.response) None
       c.in-Response.response c.args.frame.now c.requires.live (sym c.receive.ensures.incoming ∙ c.in-Response.is)
-      c.receive.ensures.advanced c.requires.new (λ s. refl) c.collect.ensures.desk.0 c.collect.ensures.desk.1;
-  collected = c.collect.ensures.collected;
-  behind = c.collect.ensures.behind;
+      c.receive.ensures.advanced c.requires.new (λ s. refl) c.respond.ensures.desk.0 c.respond.ensures.desk.1;
+  collected = c.respond.ensures.collected;
+  behind = c.respond.ensures.behind;
 }
