@@ -18,6 +18,7 @@ use Rattle.lockd_serve.specs.Alike.{AreAlike, DoTheSame}
 use Rattle.fl_session.specs.Session.{Came, Session, recalled_in, session_from, with_again, with_either, with_incoming}
 use Rattle.fl_session.specs.Session.{with_message, with_order, with_orders, with_orders_again, with_recalled, with_refusal}
 use Rattle.fl_session.specs.Session.{with_response, with_step}
+use Rattle.fl_session.specs.Whole.{bytes_in, bytes_when}
 use Rattle.fl_transport.specs.Handshake.{advanced, incoming_of}
 use Rattle.fl_transport.specs.Response.{bytes_of, lost}
 use Rattle.fl_transport.specs.declared.handshake.Handshake.{Handshake}
@@ -62,6 +63,20 @@ chain s t s1 t1 s2 t2 first second = (
   },
 )
 
+-- what lines lead to is what is read off them
+shows : (s : Session) (p : Snapshot) → LeadsTo s.lines p → p.rules ≡ s.rules → snapshot_of (state_after s.rules s.lines) ≡ p
+shows s p leads rules = ap (λ r. snapshot_of (state_after r s.lines)) (sym rules) ∙ sym leads.stands
+
+-- what is there says what is answered
+same_bytes : (s t : Session) (response : Response) → AreAlike s t
+    → bytes_in t.rules t.lines response ≡ bytes_in s.rules s.lines response
+same_bytes s t response a =
+    let one = shows s a.present a.s_leads a.s_rules in
+    let other = shows t a.present a.t_leads a.t_rules in
+    let rules = sym a.t_rules ∙ a.s_rules in
+    let there = other ∙ sym one in
+    λ i. bytes_when (rules i) (there i).view.directory response
+
 respond : (s t : Session) (response : Response) → AreAlike s t → Both s t (with_response s response) (with_response t response)
 respond s t response a = (
   record {
@@ -76,10 +91,10 @@ respond s t response a = (
     recalled = a.recalled;
   },
   record {
-    replies = bytes_of response;
+    replies = bytes_in s.rules s.lines response;
     lines = [];
     s_sent = refl;
-    t_sent = refl;
+    t_sent = ap (λ l. t.replies ++ l) (same_bytes s t response a);
     s_kept = sym (append-nil s.lines);
     t_kept = sym (append-nil t.lines);
   },
@@ -110,10 +125,6 @@ refuse s t order a = (
 
 module _ (leads_on : (lines : List Line) (p : Snapshot) (worker : ℕ) (order : Order) → LeadsTo lines p
     → LeadsTo (lines ++ step_lines worker order (replies p order)) (next p order)) where
-  -- what lines lead to is what is read off them
-  shows : (s : Session) (p : Snapshot) → LeadsTo s.lines p → p.rules ≡ s.rules → snapshot_of (state_after s.rules s.lines) ≡ p
-  shows s p leads rules = ap (λ r. snapshot_of (state_after r s.lines)) (sym rules) ∙ sym leads.stands
-
   stepped : (s t : Session) (order : Order) (tolds : List Told) (a : AreAlike s t) → tolds ≡ replies a.present order
       → Both s t (with_step s order tolds) (with_step t order tolds)
   stepped s t order tolds a is = (

@@ -5,6 +5,8 @@ pub mod EndingLemmas
 pub mod HeardLemmas
 pub mod Histories
 pub mod Listings
+pub mod ListsLemmas
+pub mod PlainLemmas
 pub mod RecordLemmas
 pub mod Sessions
 pub mod Steps

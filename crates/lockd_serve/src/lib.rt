@@ -2,8 +2,8 @@
 //!
 //! `serve_stream` serves a session over any reader and any writer. Its clauses speak of one and the same session: what
 //! was read and written, the trace, the lines on `faults` and the status. `serve_on` serves so the first connection to
-//! a socket. `laws` says what a server that goes on reads of a killed server's file. Of the bytes of a socket contracts
-//! see nothing, nor a failure of a reader or a writer. They let through:
+//! a socket. `laws` says what a server that goes on reads of a killed server's file, `session_laws` more of sessions.
+//! Of the bytes of a socket contracts see nothing, nor a failure of a reader or a writer. They let through:
 //! - a `serve_stream` that says `no memory` and serves nobody, or says wrongly that the output failed, or that the
 //!   trace's writer did, then perhaps in place of its own fault;
 //! - one that does with lines what another `when_full` says, but at `Refuse` and `End` not what `GoOn` says;
