@@ -14,7 +14,7 @@ _lockd_words() {
 _lockd() {
     local word before command=${COMP_WORDS[1]}
     _lockd_words
-    local words= rules='--fair --runs --parked --files --open --verbose'
+    local words= rules='--fair --whole --runs --parked --files --open --verbose'
     if [ "$COMP_CWORD" -eq 1 ]; then
         words="script check locks state bytes serve drive help $rules --help --version"
     elif [ "$before" = --workers ]; then

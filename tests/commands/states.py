@@ -140,10 +140,10 @@ def try_parts_that_do_not_fit():
 
 
 def try_a_head_names_its_rules():
-    """So they need not be said. Each that is said has to be the head's."""
+    """So they need not be said. Each that is said has to be the head's, but --whole, which no head names."""
     few = ["--fair", "--runs", "17", "--parked", "3", "--files", "9", "--open", "8"]
     text = head(NODE, FILE, LOCK, WAIT, rules=b"1 17 3 9 8") + b"ask 0 6000 7 0 0 0 setlkw 12 33 5 5 1 13 0\n"
-    for words in [], few, few[:1], few[1:3], few[3:5], few[5:7], few[7:]:
+    for words in [], few, few[:1], few[1:3], few[3:5], few[5:7], few[7:], ["--whole"], ["--whole", *few]:
         assert said("check", *words, text=text) == b"legal\n", words
         assert said("state", *words, text=text) == said("state", text=text), words
         assert said("locks", *words, text=text) == said("locks", text=text), words
@@ -152,8 +152,9 @@ def try_a_head_names_its_rules():
         for command in "check", "state", "locks":
             differs([command, *words], text, 1)
     differs(["check", "--fair"], head(), 1)
-    ran = run("check", "-v", "--open", "9", text=text)
-    assert ran.stderr.endswith(b"\njudged by --fair --runs 17 --parked 3 --files 9 --open 9: perhaps it was made by other rules\n"), ran
+    for words in [], ["--whole"]:
+        ran = run("check", "-v", "--open", "9", *words, text=text)
+        assert ran.stderr.endswith(b"\njudged by --fair --runs 17 --parked 3 --files 9 --open 9: perhaps it was made by other rules\n"), ran
 
 
 def try_bad_lines_of_heads():

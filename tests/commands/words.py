@@ -22,9 +22,11 @@ CREATED = b"ask 0 1 1 0 0 0 create 0 420 61\n"
 OPTIONS = {"--workers": "2", "--trace": "none", "--resume": NOWHERE, "--rotate": "1", "--keep": "2", "--trace-full": "refuse"}
 MISFIT = "error: '--trace-full' takes go-on or refuse with '--trace FILE', and wait or end with '--resume FILE' or '--rotate BYTES'\n\nFor more information, try '--help'.\n"
 ALONE = "error: '--rotate' needs '--resume FILE' or '--trace FILE', '--keep' needs '--rotate BYTES', and '--allow-gap' needs '--resume FILE'\n\nFor more information, try '--help'.\n"
-MANY = ("error: '--rotate' takes one worker: with several, the head of a new piece would be told while others take orders\n\n"
+MANY = ("error: '--rotate' and '--whole' take one worker: with several, a new piece's head, or a list of files, would be told while others take orders\n\n"
         "For more information, try '--help'.\n")
-RULES = {"--fair": [], "--runs": ["1"], "--parked": ["1"], "--files": ["1"], "--open": ["1"]}
+TWO = ("error: '--trace-full refuse' takes two workers or more: while one waits to write, another refuses orders\n\n"
+       "For more information, try '--help'.\n")
+RULES = {"--fair": [], "--whole": [], "--runs": ["1"], "--parked": ["1"], "--files": ["1"], "--open": ["1"]}
 RULED = {(): [], ("script",): [], ("bytes",): [], ("check",): [], ("locks",): [], ("serve",): [NOWHERE]}
 
 
@@ -145,6 +147,18 @@ def try_workers_of_a_new_trace_in_pieces():
     return are_refused(*(line + more for one, line in lines if not one for more in ([], ["--trace-full", "go-on"])), by=MANY)
 
 
+def try_workers_of_a_whole_session():
+    """One is taken, also if none are said, and more are refused before any file is made, in each order and whatever else is said."""
+    others = [], ["--trace", "none"], ["--fair"], ["--trace", NOWHERE, "--rotate", "1"], ["--trace", NOWHERE, "--trace-full", "go-on"]
+    lines = [(number, ["serve", NOWHERE, *first, *more, *last]) for number in ("1", "2", "4", "16") for more in others
+             for first, last in ((["--whole"], ["--workers", number]), (["--workers", number], ["--whole"]))]
+    for number, words in lines:
+        fault = "cannot trace\n" if words.count(NOWHERE) > 1 else "cannot listen\n"
+        are_refused(words, by=fault if number == "1" else MANY)
+    are_refused(["serve", NOWHERE, "--resume", NOWHERE, "--whole"], by="cannot trace\n")
+    return are_refused(["serve", NOWHERE, "--whole", "--trace", NOWHERE, "--trace-full", "refuse"], by=TWO)
+
+
 def try_numbers_of_pieces():
     """The least and the greatest are taken, and no other text."""
     bad = "", "-1", "0", "1.5", "0x1", " 1", "1 ", "1K", "4294967296", "18446744073709551617", "9" * 400, "one"
@@ -184,7 +198,7 @@ def try_options_before_a_command():
 
 def try_the_greatest_rules():
     """The least and the greatest numbers are taken, and the order of the options is free."""
-    least, most = "--runs 1 --parked 1 --files 1 --open 1", "--parked 1024 --open 65536 --fair --runs 65536 --files 65536"
+    least, most = "--runs 1 --parked 1 --files 1 --open 1", "--parked 1024 --open 65536 --fair --runs 65536 --whole --files 65536"
     for words in least.split(), most.split():
         trace = run("script", *words, text=CREATED)
         assert trace.stdout.count(b"\n") == 2 and not trace.returncode, trace

@@ -102,7 +102,7 @@ pub(crate) fn resume(host: Host<'_>, socket: &str, how: Resuming<'_>, said: Said
             return end_unopened(&mut rt.stderr(), &mut words, Untraced::Unopened(why));
         }
     };
-    let rules = said.over(head_rules(&mut trace).unwrap_or(standard));
+    let rules = said.over(head_rules(&mut trace, false).unwrap_or(standard));
     let mut words = server_words(host, socket, how.name, rules);
     if how.is_new {
         return begin_opened(rt, socket, rules, trace, how, &mut words);

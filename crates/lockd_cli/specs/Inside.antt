@@ -40,6 +40,11 @@ abbrev pub IsNumberSaid : Option (List ℕ) → Option ℕ → Type 0
 IsNumberSaid None said = said ≡ None
 IsNumberSaid (Some text) said = (n : ℕ) → Spells text n → n < 2 ^ 32 → said ≡ Some n
 
+-- a server has so many workers if none are said: one in a whole session, and else four
+abbrev pub workers_unsaid : Bool → ℕ
+workers_unsaid true = 1
+workers_unsaid false = 4
+
 -- several workers are said
 abbrev pub AreSeveral : Option (List ℕ) → Type 0
 AreSeveral None = ⊥
@@ -71,7 +76,7 @@ IsFlagOf text flag =
 -- the rules that these options say, and the standard ones of which they say nothing
 abbrev pub SayRules : Found → Rules → Type 0
 SayRules found rules =
-    IsFlagOf (one_text found (codes "fair")) rules.fair
+    IsFlagOf (one_text found (codes "fair")) rules.fair × IsFlagOf (one_text found (codes "whole")) rules.whole
     × IsNumberOf (one_text found (codes "runs")) AllowsRuns standard.runs rules.runs
     × IsNumberOf (one_text found (codes "parked")) AllowsParked standard.parked rules.parked
     × IsNumberOf (one_text found (codes "files")) AllowsFiles standard.files rules.files
@@ -80,7 +85,7 @@ SayRules found rules =
 -- the options say these rules, and nothing of those that are none here
 abbrev pub SayOwnRules : Found → SaidRules → Type 0
 SayOwnRules found rules =
-    IsFlagOf (one_text found (codes "fair")) rules.fair
+    IsFlagOf (one_text found (codes "fair")) rules.fair × IsFlagOf (one_text found (codes "whole")) rules.whole
     × IsNumberSaid (one_text found (codes "runs")) rules.runs
     × IsNumberSaid (one_text found (codes "parked")) rules.parked
     × IsNumberSaid (one_text found (codes "files")) rules.files
@@ -163,9 +168,11 @@ MisfitsPieces found =
     ⊎ ((first_value found (codes "keep") ≢ None) × (first_value found (codes "rotate") ≡ None))
     ⊎ (IsFlagOf (one_text found (codes "allow-gap")) true × (first_value found (codes "resume") ≡ None))
 
--- several workers are said of a trace in pieces
+-- several workers are said of a trace in pieces, or of a whole session
 abbrev pub MisfitsWorkers : Found → Type 0
-MisfitsWorkers found = BeginsPieces found × AreSeveral (one_text found (codes "workers"))
+MisfitsWorkers found =
+    (BeginsPieces found ⊎ IsFlagOf (one_text found (codes "whole")) true)
+    × AreSeveral (one_text found (codes "workers"))
 
 -- The file that one worker writes, and goes on in if it isn't new: that of `--resume`, or the new one of a trace in
 -- pieces, with which one worker is said, or none.
@@ -198,7 +205,7 @@ Ask found (asked.Locks at file json rules) =
     × IsFlagOf (one_text found (codes "json")) json × SayOwnRules found rules
 Ask found (asked.Serve socket workers trace rules) =
     (string_bytes socket ≡ socket_said found)
-    × IsNumberOf (one_text found (codes "workers")) AllowsWorkers 4 workers
+    × IsNumberOf (one_text found (codes "workers")) AllowsWorkers (workers_unsaid rules.whole) workers
     × SaysTrace found trace × SayRules found rules × (first_value found (codes "resume") ≡ None) × SaysNoPieces found
     × IsFlagOf (one_text found (codes "allow-gap")) false
 Ask found (asked.Resume socket file new gap stuck rotation rules) =

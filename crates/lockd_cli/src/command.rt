@@ -134,7 +134,7 @@ const SERVE: &[Argument] = &[
     SOCKET,
     Argument {
         name: "workers",
-        help: "How many workers take orders, 1 to 16; 4, if not said, and 1 with --rotate",
+        help: "How many workers take orders, 1 to 16; 4, if not said, and 1 with --rotate or --whole",
         kind: Kind::Between("N", 1, MOST_WORKERS as i64),
         conflicts_with: &[],
     },
@@ -152,7 +152,7 @@ const SERVE: &[Argument] = &[
     },
     Argument {
         name: "allow-gap",
-        help: "With --resume FILE: goes on also if pieces before FILE that are wanted, to know requests that are sent again, are missing or don't fit; such a request may be taken twice",
+        help: "With --resume FILE: goes on also if pieces before FILE that are wanted, to know requests that are sent again, are missing, can't be read or don't fit; such a request may be taken twice",
         kind: Kind::Flag(None),
         conflicts_with: &[],
     },
@@ -189,6 +189,12 @@ const RULES: &[Argument] = &[
     Argument {
         name: "fair",
         help: "Lets a request for a record lock wait behind an older one that waits and excludes it",
+        kind: Kind::Flag(None),
+        conflicts_with: &[],
+    },
+    Argument {
+        name: "whole",
+        help: "With one worker: a session also answers READDIR, STATFS and READ, and rejects RENAME, LINK, SYMLINK and WRITE with errors of their own; otherwise, all are ENOSYS",
         kind: Kind::Flag(None),
         conflicts_with: &[],
     },

@@ -4,8 +4,8 @@
 //! private contract, `asked_by`, says what is asked for by the command and the texts that `clap` found: the socket, the
 //! workers, the trace, the file of `--resume`, `--rotate`, `--keep`, `--trace-full`, `--quiet`, `--cut` and the rules.
 //! `is_verbose` says the same of `--verbose`. `serve_of` says when the word of `--trace-full` doesn't fit the trace,
-//! when `--rotate` and `--keep` lack the option that they need, and when `--rotate` is said of a new file with several
-//! workers. `read_words` repeats none of them. `clap` doesn't
+//! when `--rotate` and `--keep` lack the option that they need, and when `--whole`, or `--rotate` of a new file, is said
+//! with several workers. `read_words` repeats none of them. `clap` doesn't
 //! state which words it takes for which text, if options and commands exclude each other, as they do here. Contracts
 //! let through:
 //! - a `print_version` that always fails, and another version;
@@ -16,7 +16,7 @@
 //! These tests refuse most of them:
 //! - words that are refused, `--resume`, `--rotate`, `--keep`, `--quiet`, `--cut`, `--verbose`, and rules:
 //!   `tests/commands/words.py` and `tests/commands/texts.py`;
-//! - the number of workers: `try_the_number_of_threads` of `tests/serve/sessions.py`;
+//! - the number of workers: `try_the_number_of_threads` of `tests/serve/sessions.py`, `tests/serve/whole.py`;
 //! - the socket: `tests/serve/sockets.py`;
 //! - `--trace` and `--trace-full`: `tests/serve/traces.py`.
 //!

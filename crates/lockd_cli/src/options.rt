@@ -64,7 +64,7 @@ pub enum Asked {
     Serve {
         /// The path of the socket.
         socket: String,
-        /// How many workers take orders, 1 to 16.
+        /// How many workers take orders, 1 to 16; one, if the session is whole.
         workers: u32,
         /// Where the trace goes.
         trace: Trace,
@@ -192,6 +192,7 @@ pub(crate) fn said_rules_of(options: &ArgMatches<'_>) -> SaidRules
 {
     SaidRules {
         fair: options.get_flag("fair"),
+        whole: options.get_flag("whole"),
         runs: number_of(options, "runs"),
         parked: number_of(options, "parked"),
         files: number_of(options, "files"),

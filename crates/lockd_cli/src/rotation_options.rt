@@ -60,7 +60,7 @@ fn kept(said: Option<u32>) -> Option<u32>
     Some(said?.max(LEAST_KEPT))
 }
 
-// Refuses options that say several workers, if the trace goes on in pieces.
+// Refuses options that say several workers, for a trace in pieces or a whole session.
 pub(crate) fn refuse_several(options: &ArgMatches<'_>) -> Result<(), UsageError>
     ensures one { OnOk result (IsNumberOf (one_text (found_of options.now) (codes "workers")) AllowsWorkers 1 1) }
     ensures refused { IfErr result (λ error.

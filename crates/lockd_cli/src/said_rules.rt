@@ -12,6 +12,8 @@ use fl_waiting::{MOST_FILES, MOST_OPEN, MOST_PARKED, MOST_RUNS, Rules};
 pub struct SaidRules {
     /// `--fair`. That requests are not to wait fairly can't be said.
     pub fair: bool,
+    /// `--whole`: the session is whole. No head of a trace names it.
+    pub whole: bool,
     /// `--runs`: the most runs of locked bytes, 1 to 65,536.
     pub runs: Option<u32>,
     /// `--parked`: the most parked requests, 1 to 1,024.
@@ -27,6 +29,7 @@ impl SaidRules {
     /// such a one would become the nearest that isn't.
     pub fn over(self, others: Rules) -> Rules
         ensures fair { result.fair ≡ (self.fair || others.fair) }
+        ensures whole { result.whole ≡ (self.whole || others.whole) }
         ensures runs { IsOver AllowsRuns self.runs others.runs result.runs }
         ensures parked { IsOver AllowsParked self.parked others.parked result.parked }
         ensures files { IsOver AllowsFiles self.files others.files result.files }
@@ -37,6 +40,7 @@ impl SaidRules {
         let files = said_over(self.files, others.files, MOST_FILES);
         let open_files = said_over(self.open_files, others.open_files, MOST_OPEN);
         let rules = others.with_fair(self.fair || others.fair);
+        let rules = rules.with_whole(self.whole || others.whole);
         let rules = rules.with_limits(runs, parked).unwrap();
         rules.with_files(files, open_files).unwrap()
     }

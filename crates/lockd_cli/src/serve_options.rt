@@ -1,11 +1,12 @@
 //! What the options of `serve` ask for.
 
-ghost use Rattle.std.specs.Prelude.{◌≡◌, ◌≢◌, ◌≤◌, ℕ, None, Some, IfErr, IfOk, OnOk, codes, false};
+ghost use Rattle.std.specs.Prelude.{◌≡◌, ◌≢◌, ◌≤◌, ℕ, None, Some, IfErr, IfOk, OnOk, codes, false, true};
 ghost use Rattle.clap.specs.Matches.{found_of, one_text};
 ghost use Rattle.clap.specs.Words.{first_value};
-ghost use Rattle.lockd_cli.specs.Inside.{Ask, IsFlagOf, IsNotForResume, IsNotForTrace, Misfits, MisfitsPieces, MisfitsTrace};
-ghost use Rattle.lockd_cli.specs.Inside.{MisfitsWorkers, SaysNoFull, SaysNoPieces, SaysRotation, SaysTrace};
-ghost use Rattle.lockd_cli.specs.Inside.{SaysWhenFull, SaysWhenStuck, word_of};
+ghost use Rattle.lockd_cli.specs.Inside.{AllowsWorkers, AreSeveral, Ask, IsFlagOf, IsNotForResume, IsNotForTrace};
+ghost use Rattle.lockd_cli.specs.Inside.{IsNumberOf, Misfits, MisfitsPieces, MisfitsTrace, MisfitsWorkers, SaysNoFull};
+ghost use Rattle.lockd_cli.specs.Inside.{SaysNoPieces, SaysRotation, SaysTrace, SaysWhenFull, SaysWhenStuck, word_of};
+ghost use Rattle.lockd_cli.specs.Inside.{workers_unsaid};
 ghost use Rattle.lockd_cli.specs.Numbers.{HasWorkers};
 
 use crate::options::{
@@ -76,7 +77,7 @@ fn begin_of(alloc: Global, options: &ArgMatches<'_>) -> Result<Asked, UsageError
     ensures several { IfErr result (λ error. error ≡ UsageError.ManyWorkers → MisfitsWorkers (found_of options.now)) }
 {
     let Some(rotation) = rotation_of(options)? else {
-        return begin_whole(alloc, options);
+        return begin_one_piece(alloc, options);
     };
     let Some(file) = options.get_str("trace") else {
         return Err(UsageError::Rotate);
@@ -121,19 +122,20 @@ fn begin_pieces(
     })
 }
 
-// What the options of `serve` ask for if the trace is in one piece; four workers, if no number of them is there.
-fn begin_whole(alloc: Global, options: &ArgMatches<'_>) -> Result<Asked, UsageError>
+// What the options of `serve` ask for if the trace is in one piece.
+fn begin_one_piece(alloc: Global, options: &ArgMatches<'_>) -> Result<Asked, UsageError>
     requires resume { first_value (found_of options.now) (codes "resume") ≡ None }
     requires gap { IsFlagOf (one_text (found_of options.now) (codes "allow-gap")) false }
-    requires whole { SaysNoPieces (found_of options.now) }
+    requires pieces { SaysNoPieces (found_of options.now) }
     ensures workers { IfOk result HasWorkers }
     ensures serve { IfOk result (λ asked. word_of asked ≡ codes "serve") }
     ensures said { IfOk result (Ask (found_of options.now)) }
     ensures refused { IfErr result (λ error. error ≡ UsageError.TraceFull → Misfits (found_of options.now)) }
     ensures pieces { IfErr result (λ error. error ≢ UsageError.Rotate) }
-    ensures several { IfErr result (λ error. error ≢ UsageError.ManyWorkers) }
+    ensures several { IfErr result (λ error. error ≡ UsageError.ManyWorkers → MisfitsWorkers (found_of options.now)) }
 {
-    let workers = workers_of(number_of(options, "workers"));
+    let rules = rules_of(options);
+    let workers = workers_of(options, rules.whole)?;
     let socket = socket_of(alloc, options)?;
     let trace = trace_of(alloc, options)?;
     if workers == 1 && matches!(trace, Trace::File(_, WhenFull::Refuse)) {
@@ -143,13 +145,30 @@ fn begin_whole(alloc: Global, options: &ArgMatches<'_>) -> Result<Asked, UsageEr
         socket,
         workers,
         trace,
-        rules: rules_of(options),
+        rules,
     })
+}
+
+// How many workers the options say. If they say none, there are four, or one in a whole session, for which several are
+// refused.
+fn workers_of(options: &ArgMatches<'_>, whole: bool) -> Result<u32, UsageError>
+    ensures said { IfOk result
+        (IsNumberOf (one_text (found_of options.now) (codes "workers")) AllowsWorkers (workers_unsaid whole)) }
+    ensures range { IfOk result (λ workers. (1 ≤ workers) × (workers ≤ 16)) }
+    ensures whole { whole ≡ true → IfOk result (λ workers. workers ≡ 1) }
+    ensures refused { IfErr result (λ error. (error ≡ UsageError.ManyWorkers) × (whole ≡ true)
+        × AreSeveral (one_text (found_of options.now) (codes "workers"))) }
+{
+    if whole {
+        refuse_several(options)?;
+        return Ok(1);
+    }
+    Ok(said_workers(number_of(options, "workers")))
 }
 
 // So many workers as are said, and four if none are. `clap` lets no number through that is out of its range; such a
 // one would become the nearest that isn't.
-fn workers_of(said: Option<u32>) -> u32
+fn said_workers(said: Option<u32>) -> u32
     ensures standard { said ≡ None → result ≡ 4 }
     ensures said { (n : ℕ) → said ≡ Some n → 1 ≤ n → n ≤ 16 → result ≡ n }
     ensures range { (1 ≤ result) × (result ≤ 16) }

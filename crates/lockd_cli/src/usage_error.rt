@@ -20,7 +20,7 @@ pub enum UsageError {
     OneWorker,
     #[error("error: '--rotate' needs '--resume FILE' or '--trace FILE', '--keep' needs '--rotate BYTES', and '--allow-gap' needs '--resume FILE'\n\nFor more information, try '--help'.\n")]
     Rotate,
-    #[error("error: '--rotate' takes one worker: with several, the head of a new piece would be told while others take orders\n\nFor more information, try '--help'.\n")]
+    #[error("error: '--rotate' and '--whole' take one worker: with several, a new piece's head, or a list of files, would be told while others take orders\n\nFor more information, try '--help'.\n")]
     ManyWorkers,
     #[error("{0}")]
     CommandLine(clap::Error),

@@ -28,9 +28,10 @@ use std::io::{Seek, SeekFrom, Write};
 // No head has so many parts.
 const MOST_PARTS: usize = 1 << 40;
 
-/// The rules that the head of a trace's file names, if it has one that can be read. The file is read from its beginning
-/// then. Of a file's bytes contracts see nothing; `read_opening` says which rules a text names.
-pub fn head_rules(file: &mut File) -> Option<Rules> {
+/// The rules that the head of a trace's file names, if it has one that can be read, for a session that is whole or not,
+/// which no head says. The file is read from its beginning then. Of a file's bytes contracts see nothing;
+/// `read_opening` says which rules a text names.
+pub fn head_rules(file: &mut File, whole: bool) -> Option<Rules> {
     match file.metadata() {
         Ok(found) if found.is_file() => {}
         _ => return None,
@@ -38,11 +39,11 @@ pub fn head_rules(file: &mut File) -> Option<Rules> {
     let mut room = [0; LINE_ROOM];
     let opening = read_opening(file, &mut room).ok();
     file.seek(SeekFrom::Start(0)).ok()?;
-    opening?.rules
+    Some(opening?.rules?.with_whole(whole))
 }
 
-/// What a server goes on from by these rules, and in which file: this one, or, if its head names others, that of the next
-/// piece, which tells what is there by these. What is there has to fit them.
+/// What a server goes on from by these rules, and in which file: this one, or, if its head names others (it never says
+/// whether a session is whole), that of the next piece, which tells what is there by these. What is there has to fit.
 pub(crate) fn ready_under<'a, N: Write + Copy + Drop>(
     at: TracePath<'a>,
     alloc: Global,
@@ -59,7 +60,7 @@ pub(crate) fn ready_under<'a, N: Write + Copy + Drop>(
     ensures rules { IfOk result (λ it. it.1.point.session.rules ≡ rules) }
     ensures before { IfErr result ComesBefore }
 {
-    let named = head_rules(&mut file).unwrap_or(rules);
+    let named = head_rules(&mut file, rules.whole).unwrap_or(rules);
     if named != rules {
         begin_under(at, alloc, named, rules, file, how, notices, details)?;
         file = match file_to_go_on_in(at.rt, at.name) {

@@ -272,7 +272,7 @@ fn last_before(at: TracePath<'_>, file: &mut File, how: Resuming<'_>) -> Result<
 {
     match last_piece(at.rt, at.name, file) {
         Ok(last) => Ok(last),
-        Err(_) if how.rotation.is_none() && head_rules(file).is_none() => Ok(0),
+        Err(_) if how.rotation.is_none() && head_rules(file, false).is_none() => Ok(0),
         Err(why) => Err(unlisted(why)),
     }
 }
@@ -459,8 +459,7 @@ fn rooms(alloc: Global, rules: Rules) -> Result<(SessionRoom, StreamRoom), NoMem
     Ok((SessionRoom::new(alloc, rules)?, StreamRoom::new(alloc)?))
 }
 
-// What a server goes on from behind the lines that a judge heard. The fault is the line that differs, if no legal
-// history begins with them.
+// What a server goes on from behind the lines that a judge heard, or which of them differs.
 fn gone_on(judge: Judge) -> Result<Resumed, CommandFault>
     ensures past { IfOk result (λ r. r.past.items ≡ judge.lines) }
     ensures kept { IfOk result (λ r. IsKept (judge.lines ++ told_lines r.missing) r.present) }
