@@ -6,9 +6,10 @@ message: `uid`, `gid`, `pid`. A message is of node 2 and fh 1 by default, which 
 """
 import struct
 from errno import (  # noqa: F401: tests take them from here, beside the opcodes.
-    EAGAIN, EBADF, EDEADLK, EEXIST, EINTR, EINVAL, ENAMETOOLONG, ENFILE, ENOENT, ENOLCK, ENOMEM, ENOSPC, ENOSYS, EPROTO)
+    EAGAIN, EBADF, EDEADLK, EEXIST, EFBIG, EINTR, EINVAL, ENAMETOOLONG, ENFILE, ENOENT, ENOLCK, ENOMEM, ENOSPC, ENOSYS, ENOTDIR, EOPNOTSUPP, EPERM, EPROTO)
 
 LOOKUP, FORGET, GETATTR, SETATTR, UNLINK, OPEN, READ, RELEASE, FLUSH, INIT = 1, 2, 3, 4, 10, 14, 15, 18, 25, 26
+SYMLINK, RENAME, LINK, WRITE, STATFS, READDIR, RENAME2 = 6, 12, 13, 16, 17, 28, 45
 GETLK, SETLK, SETLKW, CREATE, INTERRUPT, DESTROY, BATCH_FORGET = 31, 32, 33, 35, 36, 38, 42
 # How long the body of each order is before its name, and whether a name follows. The pairs of a BATCH_FORGET follow, too.
 BODIES = {LOOKUP: (0, True), FORGET: (8, False), GETATTR: (16, False), UNLINK: (0, True), OPEN: (8, False), RELEASE: (24, False), FLUSH: (24, False),
@@ -83,6 +84,19 @@ def lock_body(fh, owner, start, end, kind, pid=11, flags=0):
     return struct.pack("<QQQQIIII", fh, owner, start, end, kind, pid, flags, 0)
 
 
+def read_body(fh=0, offset=0, size=4096):
+    """`struct fuse_read_in`, of READ and READDIR, and `struct fuse_write_in`, of WRITE. Of a READDIR the offset is the cookie of an entry."""
+    return struct.pack("<QQI20x", fh, offset, size)
+
+
+def rename_body(old, new, to=1):
+    return struct.pack("<Q", to) + name_body(old) + name_body(new)
+
+
+def rename2_body(old, new, flags=0, to=1):
+    return struct.pack("<QII", to, flags, 0) + name_body(old) + name_body(new)
+
+
 def init(unique=1, major=MAJOR, minor=MINOR, readahead=0, flags=0, more=b""):
     return message(INIT, unique, 0, init_body(major, minor, readahead, flags) + more)
 
@@ -135,6 +149,15 @@ def whole_file(opcode, unique, owner, kind, node=2, fh=1, pid=11, **who):
 
 def interrupt(unique, other):
     return message(INTERRUPT, unique, 0, interrupt_body(other))
+
+
+def readdir(unique, cookie=0, size=4096, node=1, **who):
+    """Asks for the entries behind the one with this cookie."""
+    return message(READDIR, unique, node, read_body(0, cookie, size), **who)
+
+
+def statfs(unique, node=1, **who):
+    return message(STATFS, unique, node, **who)
 
 
 def destroy(unique, body=b""):
@@ -195,6 +218,17 @@ def lock_reply(unique, start, end, kind, pid):
     return reply(unique, body=struct.pack("<QQII", start, end, kind, pid))
 
 
+def dirent(node, cookie, name, mode=S_IFREG):
+    """`struct fuse_dirent`, the name, and zeros up to a multiple of 8."""
+    entry = struct.pack("<QQII", node, cookie, len(name), mode >> 12) + name
+    return entry + bytes(-len(entry) % 8)
+
+
+def room_reply(unique, files, free):
+    """To a STATFS: `struct fuse_kstatfs`, by which no block is there."""
+    return reply(unique, body=struct.pack("<24xQQIIII24x", files, free, 4096, 255, 4096, 0))
+
+
 # How long replies are.
 INIT_SIZE, CREATE_SIZE, ENTRY_SIZE, ATTR_SIZE, OPEN_SIZE, BARE_SIZE = 80, 160, 144, 120, 32, REPLY_HEADER
 
@@ -231,6 +265,17 @@ def made_of(reply_):
 def lock_of(reply_):
     """The start, the end, the kind and the pid of a reply to a GETLK."""
     return struct.unpack_from("<QQII", reply_, REPLY_HEADER)
+
+
+def entries_of(reply_):
+    """The node, the cookie, the type and the name of each entry of a reply to a READDIR."""
+    found, at = [], REPLY_HEADER
+    while at < len(reply_):
+        node, cookie, length, kind = struct.unpack_from("<QQII", reply_, at)
+        found.append((node, cookie, kind, reply_[at + 24:at + 24 + length]))
+        at += 24 + length + -length % 8
+    assert at == len(reply_), "a cut entry"
+    return found
 
 
 def with_length(bytes_, length):

@@ -4,8 +4,8 @@ from functools import lru_cache
 
 U64, U32 = 1 << 64, 1 << 32
 ERRORS = {
-    2: "ENOENT", 4: "EINTR", 9: "EBADF", 11: "EAGAIN", 12: "ENOMEM", 17: "EEXIST", 20: "ENOTDIR", 21: "EISDIR", 22: "EINVAL", 23: "ENFILE", 28: "ENOSPC",
-    35: "EDEADLK", 36: "ENAMETOOLONG", 37: "ENOLCK", 38: "ENOSYS", 71: "EPROTO",
+    1: "EPERM", 2: "ENOENT", 4: "EINTR", 9: "EBADF", 11: "EAGAIN", 12: "ENOMEM", 17: "EEXIST", 20: "ENOTDIR", 21: "EISDIR", 22: "EINVAL", 23: "ENFILE",
+    27: "EFBIG", 28: "ENOSPC", 35: "EDEADLK", 36: "ENAMETOOLONG", 37: "ENOLCK", 38: "ENOSYS", 71: "EPROTO", 95: "EOPNOTSUPP",
 }
 NAME = re.compile(rb"(?:[0-9a-f]{2}){1,255}")
 

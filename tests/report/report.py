@@ -174,7 +174,7 @@ def try_traces_with_a_changed_byte():
 def try_numbers_and_names_at_their_ends():
     for line in ("ask 0 18446744073709551616 1 0 0 0 getattr", "ask 16 1 1 0 0 0 getattr", "ask 0 1 1 4294967296 0 0 getattr",
                  "ask 0 1 1 0 0 0 create 2 420 61", "ask 0 1 1 0 0 0 create 0 512 61", f"ask 0 1 1 0 0 0 lookup {'61' * 256}", "ask 0 1 1 0 0 0 lookup 00",
-                 "ask 0 1 1 0 0 0 lookup", "tell 1 err 1", "tell 1 err 011", "tell 1", "ask 0 1 1 0 0 0 open 1", "tell 1 lock 0 0 0", "", "ask", f"tell {'1' * 5000} ok"):
+                 "ask 0 1 1 0 0 0 lookup", "tell 1 err 3", "tell 1 err 011", "tell 1", "ask 0 1 1 0 0 0 open 1", "tell 1 lock 0 0 0", "", "ask", f"tell {'1' * 5000} ok"):
         same((line, fault_of(f"{CREATED}{line}\n".encode())), (line, "bad line 2\n"))
         same(run("check", text=f"{CREATED}{line}\n".encode()).stderr, b"bad line 2\n")
     same(fault_of(b"ask 15 18446744073709551615 18446744073709551615 4294967295 0 0 create 1 511 -\n"), "")
