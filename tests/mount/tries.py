@@ -2,7 +2,7 @@
 that is tried. Those that take a mount share one, with 1 worker and with 4; the others, some at a time, have their own.
 """
 import os, resource, signal, subprocess, sys, time, traceback
-from tests.mount import begins, ends, files, leaks, limits, locks, pieces, resumed, times
+from tests.mount import begins, beside, ends, files, leaks, limits, locks, pieces, resumed, times
 from tests.mount.kit import *
 
 AT_A_TIME = 4
@@ -103,7 +103,7 @@ def shared(names, every, workers, program=PROGRAM):
 def main():
     prepare()
     every = {}
-    for module in leaks, resumed, pieces, locks, files, limits, ends, begins, times:
+    for module in leaks, resumed, pieces, locks, files, beside, limits, ends, begins, times:
         every.update((name, it) for name, it in vars(module).items() if name.startswith("try_") and callable(it))
     alone = [name for name, it in every.items() if not it.__code__.co_argcount]
     together = [name for name in every if name not in alone]
