@@ -25,7 +25,7 @@ pub fn init_reply() -> &'static str
 01000000000000000000000000000000000000000000000000000000000000000000000000000000\n"
 }
 
-/// Two whole sessions under fair rules. A line that begins with `= ` is one of the trace.
+/// Two sessions under fair rules. A line that begins with `= ` is one of the trace.
 pub fn fair_sessions() -> &'static str
     ensures { length (lines result.now) ≡ 59 }
 {

@@ -22,7 +22,7 @@ pub(crate) mod hex_text;
 pub(crate) mod replies;
 
 /// `lockd bytes`: reads lines of hex, serves a session under these rules over the bytes that they spell, and writes
-/// each reply as a line of lower case hex. All input is read and checked, and the whole session is over, before any
+/// each reply as a line of lower case hex. All input is read and checked, and the session is over, before any
 /// output. A fault is one line on `faults`; before `cut` and `bad length` all replies up to there are
 /// written.
 pub fn bytes_on<R: Read, W: Write, F: Write>(
