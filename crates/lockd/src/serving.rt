@@ -3,7 +3,7 @@
 ghost use Rattle.std.specs.Prelude.{◌≡◌, ◌≢◌, ◌↔◌, ◌≤◌, ◌<◌, Some, IfErr, IfOk, OnOk};
 ghost use Rattle.std.specs.Io.KnownBytes.{Keeps};
 ghost use Rattle.lockd.specs.Inside.{AsksFile, AsksRefusal, GoesWhere};
-ghost use Rattle.lockd_resume.specs.Ending.{Ends};
+ghost use Rattle.lockd_faults.specs.Ending.{Ends};
 
 use lockd_cli::{SaidRules, Trace, WhenFull, WhenStuck};
 use lockd_commands::{CommandFault, Noting, Rules, Status, end};

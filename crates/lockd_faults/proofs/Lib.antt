@@ -1,2 +1,3 @@
+pub mod EndingLemmas
 pub mod LineLemmas
 pub mod WriteLemmas

@@ -1,4 +1,5 @@
 pub mod Causes
+pub mod Ending
 pub mod Faults
 pub mod HexLines
 pub mod Status

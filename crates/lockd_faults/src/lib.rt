@@ -1,5 +1,5 @@
-//! How a command ends, and what it tells; what a server tells of itself; whole inputs and outputs; a trace that is
-//! printed; lines of a text and lines of hex; why a line is bad; streams that keep what went wrong.
+//! How a command or a server ends, and what it tells; what a server tells of itself; whole inputs and outputs; a trace
+//! that is printed; lines of a text and lines of hex; why a line is bad; streams that keep what went wrong.
 //!
 //! `print_fault` and `end` wrote the fault's line or a beginning of it, the empty one too, and their signatures give
 //! them no memory. Contracts see no failure of a reader or a writer. They let through:
@@ -12,6 +12,7 @@
 #![tactic(auto)]
 
 mod bad_line;
+mod ending;
 mod fault;
 mod hex_lines;
 mod line_buffer;
@@ -22,6 +23,7 @@ mod status;
 mod streams;
 
 pub use bad_line::{Why, why_bad, why_bad_hex, why_bad_order};
+pub use ending::{end_at, end_resumed, end_session, end_unheard, end_unopened, end_untraced};
 pub use fault::{CommandFault, print_fault};
 pub use hex_lines::{push_line, read_line, split_line};
 pub use noting::Noting;

@@ -6,6 +6,7 @@ use Rattle.std.specs.Prelude.{IfErr, IfOk, IfSome, unwrap_or}
 use Rattle.std.specs.Fmt.{option_append}
 use Rattle.fl_audit.specs.First.{AreWholeLines, IsSoOfAll}
 use Rattle.fl_audit.specs.Opening.{AreNamed}
+use Rattle.fl_audit.specs.declared.finding.Heard.{Heard}
 use Rattle.fl_desk.specs.Legal.{IsLegal}
 use Rattle.fl_history.specs.Place.{place_of}
 use Rattle.fl_history.specs.Recent.{spoken}
@@ -15,7 +16,7 @@ use Rattle.fl_waiting.specs.declared.rules.Rules.{Rules}
 use Rattle.lockd_faults.specs.declared.fault.CommandFault.{CommandFault}
 use Rattle.lockd_faults.specs.declared.fault.CommandFault.TheVariants as command
 use Rattle.lockd_resume.specs.Heard.{AreEnough, AreHeard, AreItsRules, Earlier, IsHeardBefore, IsNearest, LacksBefore, Text}
-use Rattle.lockd_resume.specs.Inside.{StandsBefore}
+use Rattle.lockd_resume.specs.Inside.{IsHeardPiece, StandsBefore}
 use Rattle.lockd_resume.specs.declared.before.LastLines.{LastLines}
 
 -- these of the pieces were read, and these are left, if that is known
@@ -43,23 +44,34 @@ its_rules None behind own named are is = tt
 its_rules (Some t) behind own named are is = record { named = named; are = are; is = is }
 
 -- a judge heard a piece that was read ahead in part
-pub found_before : (text after whole : Text) (bytes : List ℕ) (place : Place) (last more : LastLines) (judged : List Line)
-    (now : Rules) (long : ℕ) (named : Option Rules) → now ≡ more.rules → IfSome text (λ t. AreNamed t named)
-    → more.rules ≡ unwrap_or named last.rules → Consumes text after bytes → whole ≡ option_append (Some bytes) after
-    → IsSoOfAll whole (λ t. AreWholeLines t judged long) → IsLegal now judged
-    → (place_of judged).lines + length (spoken last.recent) ≡ place.lines → more.past.items ≡ judged ++ last.past.items
-    → more.recent ≡ judged ++ last.recent → StandsBefore text place last more
-found_before text after whole bytes place last more judged now long named same are is read chained all legal meets past recent =
-    record {
-      lines = judged;
-      bytes = long;
-      rules = its_rules text last.rules more.rules named are is;
-      whole = so_of_left text after whole bytes (λ t. AreWholeLines t judged long) read chained all;
-      legal = subst (λ r. IsLegal r judged) same legal;
-      meets = meets;
-      past = past;
-      recent = recent;
-    }
+pub heard_ahead : (text after whole : Text) (bytes : List ℕ) (behind rules : Rules) (heard : Heard) (named : Option Rules)
+    → heard.judge.rules ≡ rules → IfSome text (λ t. AreNamed t named) → rules ≡ unwrap_or named behind
+    → Consumes text after bytes → whole ≡ option_append (Some bytes) after
+    → IsSoOfAll whole (λ t. AreWholeLines t heard.judge.lines heard.bytes) → heard.recent ≡ heard.judge.lines
+    → IsHeardPiece text behind (rules, heard)
+heard_ahead text after whole bytes behind rules heard named judged are is read chained all recent = record {
+  rules = its_rules text behind rules named are is;
+  judged = judged;
+  whole = so_of_left text after whole bytes (λ t. AreWholeLines t heard.judge.lines heard.bytes) read chained all;
+  recent = recent;
+}
+
+-- it stands before the last lines, if it is legal and ends where they begin
+pub found_before : (text : Text) (place : Place) (last more : LastLines) (piece : Rules × Heard)
+    → IsHeardPiece text last.rules piece → piece.0 ≡ more.rules → IsLegal piece.1.judge.rules piece.1.judge.lines
+    → (place_of piece.1.judge.lines).lines + length (spoken last.recent) ≡ place.lines
+    → more.past.items ≡ piece.1.judge.lines ++ last.past.items → more.recent ≡ piece.1.recent ++ last.recent
+    → StandsBefore text place last more
+found_before text place last more piece is same legal meets past recent = record {
+  lines = piece.1.judge.lines;
+  bytes = piece.1.bytes;
+  rules = subst (λ r. IfSome text (λ t. AreItsRules last.rules t r)) same is.rules;
+  whole = is.whole;
+  legal = subst (λ r. IsLegal r piece.1.judge.lines) (is.judged ∙ same) legal;
+  meets = meets;
+  past = past;
+  recent = recent ∙ ap (λ l. l ++ last.recent) is.recent;
+}
 
 -- what was heard of pieces, as it is kept
 abbrev pub earlier : LastLines → Earlier

@@ -1,5 +1,5 @@
 -- A server that goes on behind the lines of a trace's file.
-use Rattle.std.specs.Prelude.{ℕ, Bool, true, false, List, Option, Some, ⊤}
+use Rattle.std.specs.Prelude.{ℕ, Bool, List, Option, Some, ⊤}
 use Rattle.fl_desk.specs.Legal.{IsLegal}
 use Rattle.fl_judge.specs.Present.{HasPresent}
 use Rattle.fl_judge.specs.Verdicts.{DiffersAt}
@@ -10,11 +10,10 @@ use Rattle.fl_session.specs.Served.{IsServedBehind}
 use Rattle.fl_session.specs.declared.done.Done.{Done}
 use Rattle.fl_trace.specs.Text.{BreaksAt, LineFits}
 use Rattle.fl_transport.specs.Streams.{Streams}
-use Rattle.fl_transport.specs.declared.fault.Fault.{Fault as SessionFault}
 use Rattle.fl_waiting.specs.declared.rules.Rules.{Rules}
+use Rattle.lockd_faults.specs.Ending.{Ending, Ends, EndsBehind}
 use Rattle.lockd_faults.specs.declared.fault.CommandFault.{CommandFault}
 use Rattle.lockd_faults.specs.declared.fault.CommandFault.TheVariants as command
-use Rattle.lockd_resume.specs.Ending.{Ending, Ends, EndsUntraced, told_of}
 use Rattle.lockd_resume.specs.Heard.{LacksBefore, Text}
 
 -- No legal history begins with the whole lines of a text, or they end inside a head, and the line of this number is the
@@ -42,11 +41,6 @@ FileSays rules left text command.Trace = LacksLines rules left text
 FileSays rules left text command.NoMemory = ⊤
 FileSays rules left text command.Read = ⊤
 FileSays rules left text fault = ⊥
-
--- The session's fault is told. If the file lacks lines or is gone, it is told behind it that the trace failed.
-abbrev pub EndsBehind : Option SessionFault → Bool → Ending → Type 0
-EndsBehind fault true it = Ends (told_of fault) it
-EndsBehind fault false it = EndsUntraced (told_of fault) it
 
 -- a fault for which a server doesn't go on behind a trace, and serves nobody
 abbrev pub IsBefore : CommandFault → Type 0

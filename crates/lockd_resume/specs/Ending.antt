@@ -1,23 +1,13 @@
--- How a server ends: where the trace of its session is, what it tells, and its status.
-use Rattle.std.specs.Prelude.{◌≡◌, ◌⊎◌, ℕ, Bool, true, false, List, Option, None, Some, option_map}
-use Rattle.std.specs.Io.KnownBytes.{Appends, Keeps}
+-- Where the trace of a session is, once its server ends, and what that tells.
+use Rattle.std.specs.Prelude.{◌⊎◌, ℕ, Bool, true, false, List, Option, Some}
+use Rattle.std.specs.Io.KnownBytes.{Appends}
 use Rattle.fl_session.specs.declared.done.Done.{Done}
 use Rattle.fl_stream.specs.Streams.{IsBegun, Wrote, WroteSome}
 use Rattle.fl_trace.specs.Text.{text_of}
 use Rattle.fl_transport.specs.declared.fault.Fault.{Fault as SessionFault}
 use Rattle.fl_transport.specs.declared.fault.Fault.TheVariants as session
-use Rattle.lockd_faults.specs.Causes.{fault_of}
-use Rattle.lockd_faults.specs.Faults.{AreBothTold, IsTold}
-use Rattle.lockd_faults.specs.declared.fault.CommandFault.{CommandFault}
-use Rattle.lockd_faults.specs.declared.fault.CommandFault.TheVariants.{TraceFailed, Write}
-use Rattle.lockd_faults.specs.declared.status.Status.{Status}
-use Rattle.lockd_faults.specs.declared.status.Status.TheVariants.{Faulted, Good}
-
--- How a server ended: its status, and what its error output held before and holds then.
-pub record Ending : Type 0 where
-  pub status : Status
-  pub told : Option (List ℕ)
-  pub told_now : Option (List ℕ)
+use Rattle.lockd_faults.specs.Ending.{Ending, Ends, EndsUntraced, told_of}
+use Rattle.lockd_faults.specs.declared.fault.CommandFault.TheVariants.{Write}
 
 -- The session has a history. It has none at `NoMemory`, when nothing was served, nor at `NoReader`, when the workers'
 -- board can't tell it.
@@ -25,22 +15,6 @@ abbrev pub has_history : Option SessionFault → Bool
 has_history (Some session.NoMemory) = false
 has_history (Some session.NoReader) = false
 has_history fault = true
-
--- a session's fault, as the server tells it
-abbrev pub told_of : Option SessionFault → Option CommandFault
-told_of fault = option_map fault_of fault
-
--- This fault is told, as one line, and decides the status. With none the status is good and nothing is told.
-abbrev pub Ends : Option CommandFault → Ending → Type 0
-Ends None it = (it.status ≡ Good) × Keeps it.told it.told_now
-Ends (Some fault) it = (it.status ≡ Faulted fault) × IsTold fault it.told it.told_now
-
--- It is told that the trace failed, after the session's fault, if it had another. The first that is told decides the
--- status.
-abbrev pub EndsUntraced : Option CommandFault → Ending → Type 0
-EndsUntraced None it = Ends (Some TraceFailed) it
-EndsUntraced (Some TraceFailed) it = Ends (Some TraceFailed) it
-EndsUntraced (Some fault) it = (it.status ≡ Faulted fault) × AreBothTold fault TraceFailed it.told it.told_now
 
 -- The text of the session's history was printed, all of it, and its fault is told. If the output can't be written, a
 -- beginning of the text may be there, and this is the only fault that is told. `out` and `out_now` are what the output

@@ -16,6 +16,7 @@ use Rattle.fl_judge.specs.Present.{HasPresent}
 use Rattle.fl_judge.specs.Verdicts.{DiffersAt}
 use Rattle.fl_history.specs.declared.history.Line.{Line}
 use Rattle.fl_audit.specs.declared.finding.AuditFault.{AuditFault}
+use Rattle.fl_audit.specs.declared.finding.Heard.{Heard}
 use Rattle.fl_audit.specs.declared.finding.AuditFault.TheVariants as reading
 use Rattle.fl_waiting.specs.declared.rules.Rules.{Rules}
 use Rattle.lockd_faults.specs.declared.fault.CommandFault.{CommandFault}
@@ -43,6 +44,13 @@ pub record DiffersBy (rules : Rules) (lines : List Line) (fault : CommandFault) 
   pub is : fault ≡ command.Differs line
   pub differs : DiffersAt rules lines line
   pub none : HasPresent rules lines → ⊥
+
+-- a judge heard the whole lines of a piece with this text, by its rules, and these are the last of them
+pub record IsHeardPiece (text : Text) (behind : Rules) (piece : Rules × Heard) : Type 0 where
+  pub rules : IfSome text (λ t. AreItsRules behind t piece.0)
+  pub judged : piece.1.judge.rules ≡ piece.0
+  pub whole : IsSoOfAll text (λ t. AreWholeLines t piece.1.judge.lines piece.1.bytes)
+  pub recent : piece.1.recent ≡ piece.1.judge.lines
 
 -- these lines are those of a piece with this text, which is legal, and others behind them, which end at this place
 pub record StandsBefore (text : Text) (place : Place) (last more : LastLines) : Type 0 where

@@ -12,8 +12,7 @@ use Rattle.fl_trace.specs.Text.{text_of}
 use Rattle.fl_transport.specs.Streams.{Streams}
 use Rattle.fl_transport.specs.declared.fault.Fault.TheVariants.{NoMemory}
 use Rattle.fl_waiting.specs.declared.rules.Rules.{Rules}
-use Rattle.lockd_resume.specs.Behind.{EndsBehind}
-use Rattle.lockd_resume.specs.Ending.{Ending}
+use Rattle.lockd_faults.specs.Ending.{Ending, EndsBehind}
 use Rattle.fl_stream.specs.Pieced.{behind_head}
 use Rattle.lockd_resume.specs.declared.behind.ResumedRun.{ResumedRun}
 use Rattle.lockd_resume.specs.declared.point.ResumePoint.{ResumePoint}

@@ -7,7 +7,7 @@ ghost use Rattle.fl_history.specs.Place.{place_of};
 ghost use Rattle.fl_history.specs.Recent.{spoken};
 ghost use Rattle.lockd_faults.specs.declared.fault.CommandFault.{CommandFault};
 ghost use Rattle.lockd_resume.specs.Heard.{AreEnough, IsHeardBefore, IsNearest, LacksBefore, Text};
-ghost use Rattle.lockd_resume.specs.Inside.{StandsBefore};
+ghost use Rattle.lockd_resume.specs.Inside.{IsHeardPiece, StandsBefore};
 
 use fl_audit::{AuditFault, Details, Heard, hear_cut, read_opening};
 use fl_core::Rules;
@@ -142,19 +142,12 @@ fn add_piece<B: Read + Drop>(
     ensures added { result ≡ Ok Fit.Before → StandsBefore (B.remaining piece) place last.old last.new }
     ensures apart { result ≡ Ok Fit.Apart → last.new ≡ last.old }
 {
-    let mut piece = piece;
-    let mut room = [0; LINE_ROOM];
-    let Ok(opening) = read_opening(&mut piece, &mut room) else {
-        return Ok(Fit::Apart);
-    };
-    let rules = opening.rules.unwrap_or(last.rules);
-    let mut text = room[..opening.bytes].chain(piece);
-    let mut details = Details::new();
-    let heard = match hear_cut(alloc, rules, &mut text, &mut details) {
+    let heard = match heard_piece(alloc, piece, last.rules) {
         Ok(heard) => heard,
         Err(AuditFault::NoMemory) => return Err(NoMemory),
         Err(AuditFault::BadLine(_) | AuditFault::Read) => return Ok(Fit::Apart),
     };
+    let (rules, heard) = heard;
     let Heard {
         judge,
         mut recent,
@@ -177,6 +170,29 @@ fn add_piece<B: Read + Drop>(
         recent,
     };
     Ok(Fit::Before)
+}
+
+// The rules of a piece, which are those that its head names, or else those of the piece behind it, and a judge by these
+// that heard its lines.
+fn heard_piece<B: Read + Drop>(
+    alloc: Global,
+    piece: B,
+    behind: Rules,
+) -> Result<(Rules, Heard), AuditFault>
+    ensures { IfOk result (IsHeardPiece (B.remaining piece) behind) }
+{
+    let mut piece = piece;
+    let mut room = [0; LINE_ROOM];
+    let Ok(opening) = read_opening(&mut piece, &mut room) else {
+        return Err(AuditFault::Read);
+    };
+    let rules = opening.rules.unwrap_or(behind);
+    let mut text = room[..opening.bytes].chain(piece);
+    let mut details = Details::new();
+    match hear_cut(alloc, rules, &mut text, &mut details) {
+        Ok(heard) => Ok((rules, heard)),
+        Err(fault) => Err(fault),
+    }
 }
 
 // Whether a judge's lines are legal, and end where these begin, which end at this place.

@@ -1,6 +1,5 @@
 //! `lockd serve --resume`, as functions over a reader and writers: a session that goes on behind the lines of a trace,
-//! whose file gets the lines of an order before any of its replies leaves. And how any server ends: where its trace
-//! goes, and which faults are told.
+//! whose file gets the lines of an order before any of its replies leaves.
 //!
 //! `resumed_from` reads a trace by any reader, and gives the lines behind which a server goes on. `resume_stream`
 //! serves a session behind them, over any reader and two writers, the client's and the trace's file. Its clauses speak
@@ -12,8 +11,7 @@
 //! - a `resumed_from` that is always refused, and what `fl_judge` lets through;
 //! - a `resume_stream` that says that the file isn't whole though it is, or writes nothing to it before a reply waits;
 //! - one that hangs up before the session, or not at all;
-//! - one that prints a fault in part, or not at all, and what `fl_session`, `fl_stream` and `lockd_streams` let
-//!   through;
+//! - one that prints a fault in part or not at all; what `fl_session`, `fl_stream` and `lockd_streams` let through;
 //! - a `resume_on` that serves nobody, or a client all the same, and prints any of its faults or none, hands on no
 //!   lines, or others than the file's, or writes the new ones elsewhere;
 //! - one that cuts nothing off or too much, or a file at `no memory`, or one whose lines differ or that may be no
@@ -27,28 +25,27 @@
 //! These tests refuse most of them:
 //! - `resume_on`, its file and old sockets: `tests/serve/sessions.py`, `tests/resume/kills.py`,
 //!   `tests/resume/files.py`;
-//! - pieces, what stands before one, and other rules: `tests/resume/pieces.py`;
-//! - traces, and files that go or can't be written: `tests/serve/traces.py`;
+//! - pieces, other rules: `tests/resume/pieces.py`; files that go or can't be written: `tests/serve/traces.py`;
 //! - `no memory`, and what the trace's file has then: `tests/serve/allocations.py`;
 //! - what an observer is told: `tests/commands/words.py`, `tests/commands/texts.py`.
 #![tactic(auto)]
 
 mod before;
 mod behind;
-mod ending;
 mod hang_up;
 mod observer;
 mod other_rules;
 mod point;
+mod reading;
 mod resume_file;
 mod resuming;
 
 pub use before::PiecesBefore;
 pub use behind::ResumedRun;
-pub use ending::{end_session, end_unheard, end_unopened, end_untraced};
 pub use hang_up::{HangUp, hang_up_if};
 pub use observer::ResumeObserver;
 pub use other_rules::head_rules;
 pub use point::ResumePoint;
-pub use resume_file::{Resuming, resume_on, resumed_from};
+pub use reading::resumed_from;
+pub use resume_file::{Resuming, resume_on};
 pub use resuming::resume_stream;

@@ -1,42 +1,35 @@
 //! `lockd serve --resume`: a session behind the lines of a trace's file.
 
-ghost use Rattle.std.specs.Prelude.{◌≡◌, ◌⊎◌, ◌&&◌, ◌++◌, ℕ, Bool, [], true, List, Option, Some, IfOk, IfErr, IfSome};
+ghost use Rattle.std.specs.Prelude.{◌≡◌, ◌⊎◌, ◌++◌, [], Some, IfOk, IfErr, IfSome};
 ghost use Rattle.std.specs.Path.{path_bytes};
 ghost use Rattle.fl_desk.specs.Kept.{IsKept};
-ghost use Rattle.fl_audit.specs.First.{AreWholeLines, IsSoOfAll};
 ghost use Rattle.fl_history.specs.Place.{place_of};
-ghost use Rattle.fl_judge.specs.Present.{told_lines, HasPresent};
-ghost use Rattle.fl_transport.specs.declared.fault.Fault.{Fault as SessionFault};
-ghost use Rattle.lockd_resume.specs.Behind.{EndsBehind, FileSays, ServesBehind, ServesNobodyBehind};
-ghost use Rattle.lockd_resume.specs.Ending.{Ending, Ends};
-ghost use Rattle.lockd_resume.specs.Heard.{AreEnough, IsHeardBefore};
-ghost use Rattle.lockd_resume.specs.Inside.{ComesBefore, DiffersBy, told_of_reading};
-ghost use Rattle.fl_stream.specs.Streams.{IsAs};
-ghost use Rattle.fl_trace.specs.Text.{text_of};
-ghost use Rattle.lockd_resume.specs.Resumed.{IsOverBehind, lines_at};
+ghost use Rattle.lockd_faults.specs.Ending.{Ending, Ends};
+ghost use Rattle.lockd_resume.specs.Behind.{ServesBehind, ServesNobodyBehind};
+ghost use Rattle.lockd_resume.specs.Inside.{ComesBefore};
+ghost use Rattle.lockd_resume.specs.Resumed.{lines_at};
 
-use crate::before::{LastLines, PiecesBefore, are_enough, with_before};
+use crate::before::are_enough;
 use crate::behind::ResumedRun;
-use crate::ending::{end_unheard, end_unopened};
 use crate::observer::ResumeObserver;
 use crate::other_rules::{head_rules, ready_under};
 use crate::point::ResumePoint;
+use crate::reading::resumed_from;
 use crate::resuming::resume_stream;
-use fl_audit::{AuditFault, Details, Heard, hear_cut};
+use fl_audit::Details;
 use fl_core::Rules;
-use fl_judge::laws::a_legal_history_has_a_present;
-use fl_judge::{Judge, Resumed, Verdict};
 use fl_order::NoMemory;
-use fl_session::SessionRoom;
 use fl_stream::StreamRoom;
-use lockd_faults::{CommandFault, Noting, Status, Untraced, end, end_without_file};
+use lockd_faults::{
+    CommandFault, Noting, Status, Untraced, end, end_at, end_unheard, end_unopened,
+};
 use lockd_streams::{
     FilePieces, OldSocket, OlderPieces, Patient, PieceWriter, Rotation, Spinning, TracePath,
     WhenUnwritten, connection, is_at, is_link, last_piece, next_name,
 };
 use std::alloc::Global;
 use std::fs::{File, TryLockError};
-use std::io::{ErrorKind, Read, Write};
+use std::io::{ErrorKind, Write};
 use std::path::Path;
 use std::{fs, io};
 
@@ -105,26 +98,55 @@ pub fn resume_on<F: Write, N: Write + Copy + Drop, O: ResumeObserver>(
     };
     let (name, next) = (how.name, next.as_str());
     let at = TracePath { rt, name, next };
-    let (file, ready) = match ready_under(at, alloc, rules, file, how, notices, &mut details) {
-        Ok(ready) => ready,
-        Err(Unready::Untraced(why)) => return end_unopened(faults, observer, why),
-        Err(Unready::Fault(fault)) => {
-            return end_unresumed(alloc, faults, observer, fault, &details);
-        }
-    };
+    match ready_under(at, alloc, rules, file, how, notices, &mut details) {
+        Ok((file, ready)) => serve_ready(
+            at, alloc, path, file, ready, how, faults, notices, observer,
+        ),
+        Err(Unready::Untraced(why)) => end_unopened(faults, observer, why),
+        Err(Unready::Fault(fault)) => end_unresumed(alloc, faults, observer, fault, &details),
+    }
+}
+
+// Serves the client that connects first, from what is ready, behind the lines of this file.
+fn serve_ready<'a, F: Write, N: Write + Copy + Drop, O: ResumeObserver>(
+    at: TracePath<'a>,
+    alloc: Global,
+    path: Path<'_>,
+    file: File,
+    ready: Ready<FilePieces<'a, N>>,
+    how: Resuming<'_>,
+    faults: &mut F,
+    notices: N,
+    observer: &mut O,
+) -> Status
+    requires recent { ready.point.recent ≡ ready.point.heard.items ++ ready.point.resumed.past.items }
+    requires place { ready.point.place ≡ place_of ready.point.resumed.past.items }
+    requires kept { IsKept (lines_at ready.point) ready.point.resumed.present }
+    requires present { ready.point.resumed.present.rules ≡ ready.point.session.rules }
+    ensures over { let it : Ending = record {
+      status = result;
+      told = F.contents faults.old;
+      told_now = F.contents faults.new;
+    } in ServesNobodyBehind it ⊎ ServesBehind ready.entry.point.session.rules it }
+    ensures unnamed { path_bytes path.entry ≡ [] → ServesNobodyBehind (record {
+      status = result;
+      told = F.contents faults.old;
+      told_now = F.contents faults.new;
+    }) }
+{
     let Ready {
         point,
         pieces,
         spare,
     } = ready;
     let old = old_socket(how, observer);
-    let stream = match connection(rt, alloc, path, old, observer) {
+    let stream = match connection(at.rt, alloc, path, old, observer) {
         Ok(stream) => stream,
         Err(why) => return end_unheard(faults, observer, why),
     };
     let mut r = Spinning::ticking(&stream, &stream);
     let mut w = Noting::new(Patient::new(&stream, &stream));
-    tell_gap(name, &point, notices);
+    tell_gap(at.name, &point, notices);
     let file = PieceWriter::behind(at, file, point.bytes, how.when, notices);
     let socket = Some(&stream);
     let (status, run) = resume_stream(&mut r, &mut w, point, file, pieces, spare, socket, faults);
@@ -368,132 +390,4 @@ fn cut_off(file: &File, bytes: u64, rest: &[u8]) -> io::Result<()> {
         return Ok(());
     }
     file.set_len(bytes)
-}
-
-// Ends a server with this status, whose trace's file was whole or not. If it was whole, and isn't there any more, that
-// is told.
-fn end_at<F: Write>(faults: &mut F, status: Status, whole: bool, there: bool) -> Status
-    ensures { (fault : Option SessionFault) (told : Option (List ℕ))
-        → EndsBehind fault whole (record { status = status; told = told; told_now = F.contents faults.old })
-        → EndsBehind fault (whole && there) (record {
-          status = result;
-          told = told;
-          told_now = F.contents faults.new;
-        }) }
-{
-    if !whole {
-        return status;
-    }
-    if there {
-        return status;
-    }
-    end_without_file(faults, status)
-}
-
-/// What a server goes on from behind the lines of a trace's file, under these rules: all its lines, up to the last
-/// newline. If they begin with a head, and aren't enough to know messages that are sent again, it reads pieces before,
-/// too, each by its own rules, until they are enough. If they never are, or one isn't legal or doesn't fit, the fault is
-/// `Trace`, unless a gap is allowed: then it goes on with what was heard. It is `Trace`, too, if one ends behind the place
-/// where the lines begin: then these aren't the last. What is told of the file's lines goes to `details`. All memory that
-/// the session needs is made before the file is read.
-pub fn resumed_from<S: Read, P: PiecesBefore>(
-    alloc: Global,
-    rules: Rules,
-    before: &mut P,
-    file: &mut S,
-    allows_gap: bool,
-    details: &mut Details,
-) -> Result<ResumePoint, CommandFault>
-    ensures lines { IfOk result (λ point. IsSoOfAll (S.remaining file.old)
-        (λ text. AreWholeLines text point.resumed.past.items point.bytes)) }
-    ensures recent { IfOk result (λ point. point.recent ≡ point.heard.items ++ point.resumed.past.items) }
-    ensures heard { IfOk result (λ point.
-        IsHeardBefore rules (P.left before.old) point.resumed.past.items point.heard.items) }
-    ensures enough { IfOk result (λ point. (allows_gap ≡ true) ⊎ AreEnough point.place point.recent) }
-    ensures place { IfOk result (λ point. point.place ≡ place_of point.resumed.past.items) }
-    ensures kept { IfOk result (λ point. IsKept (lines_at point) point.resumed.present) }
-    ensures present { IfOk result (λ point. point.resumed.present.rules ≡ point.session.rules) }
-    ensures rules { IfOk result (λ point. point.session.rules ≡ rules) }
-    ensures error { IfErr result (λ fault.
-        IsSoOfAll (S.remaining file.old) (λ text. FileSays rules (P.left before.old) text fault)) }
-{
-    let Ok((session, stream)) = rooms(alloc, rules) else {
-        return Err(CommandFault::NoMemory);
-    };
-    let heard = match hear_cut(alloc, rules, file, details) {
-        Ok(heard) => heard,
-        Err(fault) => return Err(told(fault)),
-    };
-    let Heard {
-        judge,
-        bytes,
-        recent,
-    } = heard;
-    let place = judge.place();
-    let since = recent.kept() as u64;
-    let resumed = match gone_on(judge) {
-        Ok(resumed) => resumed,
-        Err(fault) => return Err(fault),
-    };
-    let last = match with_before(alloc, rules, before, recent, place, allows_gap) {
-        Ok(last) => last,
-        Err(fault) => return Err(fault),
-    };
-    let LastLines { past, recent, .. } = last;
-    Ok(ResumePoint {
-        resumed,
-        heard: past,
-        recent,
-        since,
-        place,
-        bytes,
-        session,
-        stream,
-    })
-}
-
-// The memory of a session under these rules, and for the text of its lines.
-fn rooms(alloc: Global, rules: Rules) -> Result<(SessionRoom, StreamRoom), NoMemory>
-    ensures { IfOk result (λ made. made.0.rules ≡ rules) }
-{
-    Ok((SessionRoom::new(alloc, rules)?, StreamRoom::new(alloc)?))
-}
-
-// What a server goes on from behind the lines that a judge heard, or which of them differs.
-fn gone_on(judge: Judge) -> Result<Resumed, CommandFault>
-    ensures past { IfOk result (λ r. r.past.items ≡ judge.lines) }
-    ensures kept { IfOk result (λ r. IsKept (judge.lines ++ told_lines r.missing) r.present) }
-    ensures rules { IfOk result (λ r. r.present.rules ≡ judge.rules) }
-    ensures error { IfErr result (λ fault. DiffersBy judge.rules judge.lines fault) }
-{
-    if judge.present().is_none() {
-        return Err(difference(&judge));
-    }
-    match judge.into_resumed() {
-        Some(resumed) => Ok(resumed),
-        None => unreachable!(),
-    }
-}
-
-// Where the lines differ that begin no legal history.
-fn difference(judge: &Judge) -> CommandFault
-    requires none { HasPresent judge.now.rules judge.now.lines → ⊥ }
-    ensures { DiffersBy judge.now.rules judge.now.lines result }
-{
-    a_legal_history_has_a_present();
-    match judge.verdict() {
-        Verdict::Legal => unreachable!(),
-        Verdict::Differs(n) => CommandFault::Differs(n),
-    }
-}
-
-// The fault of a reading, as the server tells it.
-fn told(fault: AuditFault) -> CommandFault
-    ensures { result ≡ told_of_reading fault }
-{
-    match fault {
-        AuditFault::BadLine(n) => CommandFault::BadLine(n),
-        AuditFault::NoMemory => CommandFault::NoMemory,
-        AuditFault::Read => CommandFault::Read,
-    }
 }

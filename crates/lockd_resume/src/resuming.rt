@@ -9,11 +9,10 @@ ghost use Rattle.lockd_faults.specs.declared.fault.CommandFault.{CommandFault};
 ghost use Rattle.lockd_resume.specs.Resumed.{IsOverBehind, lines_at};
 
 use crate::behind::{ResumedRun, resume};
-use crate::ending::end_resumed;
 use crate::hang_up::{HangUp, hang_up_if};
 use crate::point::ResumePoint;
 use fl_stream::{Pieces, StreamRoom};
-use lockd_faults::Status;
+use lockd_faults::{Status, end_resumed};
 use std::io::{Read, Write};
 
 /// Serves a session that goes on from this point, with one worker: what the client sends is read from `r`, and the

@@ -10,7 +10,8 @@ use Rattle.fl_stream.specs.declared.manner.WhenWriterFails.{WhenWriterFails}
 use Rattle.fl_stream.specs.declared.manner.WhenWriterFails.TheVariants.{GoOn, Refuse, End}
 use Rattle.fl_transport.specs.Streams.{Streams}
 use Rattle.fl_waiting.specs.declared.rules.Rules.{Rules}
-use Rattle.lockd_resume.specs.Ending.{Ending, Ends, Traces, has_history, told_of}
+use Rattle.lockd_faults.specs.Ending.{Ending, Ends, told_of}
+use Rattle.lockd_resume.specs.Ending.{Traces, has_history}
 use Rattle.lockd_serve.specs.Ending.{HasStored, IsOver, LeavesTrace}
 use Rattle.lockd_serve.specs.Served.{HasServed}
 use Rattle.lockd_serve.specs.declared.options.TraceTo.{TraceTo}

@@ -10,7 +10,8 @@ use Rattle.fl_trace.specs.Text.{text_of}
 use Rattle.fl_transport.specs.Streams.{Streams}
 use Rattle.fl_transport.specs.declared.fault.Fault.TheVariants as session
 use Rattle.fl_waiting.specs.declared.rules.Rules.{Rules}
-use Rattle.lockd_resume.specs.Ending.{Ending, Ends, Prints, Traces, has_history, told_of}
+use Rattle.lockd_faults.specs.Ending.{Ending, Ends, told_of}
+use Rattle.lockd_resume.specs.Ending.{Prints, Traces, has_history}
 use Rattle.lockd_serve.specs.Served.{HasServed}
 use Rattle.lockd_serve.specs.declared.options.TraceTo.{TraceTo}
 use Rattle.lockd_serve.specs.declared.options.TraceTo.TheVariants as to

@@ -6,7 +6,7 @@ use Rattle.lockd_faults.specs.declared.fault.CommandFault.{CommandFault}
 use Rattle.lockd_faults.specs.declared.fault.CommandFault.TheVariants.{Listen, NoMemory}
 use Rattle.lockd_faults.specs.declared.status.Status.{Status}
 use Rattle.lockd_faults.specs.declared.status.Status.TheVariants.{Faulted}
-use Rattle.lockd_resume.specs.Ending.{Ending}
+use Rattle.lockd_faults.specs.Ending.{Ending}
 
 -- nobody was served: no connection came, or there was no memory to serve one
 abbrev pub ServesNobody : Status → Type 0

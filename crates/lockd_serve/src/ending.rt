@@ -7,13 +7,13 @@ ghost use Rattle.fl_stream.specs.Streams.{HoldsText, Wrote};
 ghost use Rattle.fl_trace.specs.Text.{text_of};
 ghost use Rattle.fl_transport.specs.declared.fault.Fault.{Fault as SessionFault};
 ghost use Rattle.lockd_faults.specs.declared.fault.CommandFault.{CommandFault};
-ghost use Rattle.lockd_resume.specs.Ending.{Ends, Prints, Traces, has_history, told_of};
+ghost use Rattle.lockd_faults.specs.Ending.{Ends, told_of};
+ghost use Rattle.lockd_resume.specs.Ending.{Prints, Traces, has_history};
 
 use fl_serve::Recorded;
 use fl_session::{Done, Fault};
 use fl_stream::{AheadLines, Streamed, TraceRoom};
-use lockd_faults::{CommandFault, Status, end, print};
-use lockd_resume::{end_session, end_untraced};
+use lockd_faults::{CommandFault, Status, end, end_session, end_untraced, print};
 use std::io::Write;
 
 /// Prints the trace of a session, and then its fault. If the output can't be written, that alone is told.

@@ -31,8 +31,8 @@ mod trace_file;
 mod unused;
 
 pub use fl_stream::WhenWriterFails;
-pub use lockd_faults::{Observer, Parting, Untraced};
-pub use lockd_resume::{HangUp, Resuming, end_unopened, head_rules, resume_on};
+pub use lockd_faults::{Observer, Parting, Untraced, end_unopened};
+pub use lockd_resume::{HangUp, Resuming, head_rules, resume_on};
 pub use lockd_streams::{
     Rotation, TracePath, TraceWriter, WhenUnwritten, file_to_go_on_in, is_at, new_first_piece,
     next_name, remove_if_at,

@@ -11,8 +11,7 @@ ghost use Rattle.lockd_serve.specs.Unserved.{LeavesNothing, ServesNobody};
 
 use crate::options::ServeOptions;
 use crate::serving::serve_stream;
-use lockd_faults::{Noting, Observer, Status};
-use lockd_resume::end_unheard;
+use lockd_faults::{Noting, Observer, Status, end_unheard};
 use lockd_streams::{OldSocket, Patient, Spinning, connection};
 use std::alloc::Global;
 use std::fs::Files;

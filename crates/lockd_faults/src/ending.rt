@@ -1,13 +1,14 @@
 //! How `lockd serve` ends once its session is over: which faults are told.
 
-ghost use Rattle.std.specs.Prelude.{◌≡◌, ◌≢◌, None, Some, IsTrue};
+ghost use Rattle.std.specs.Prelude.{◌≡◌, ◌≢◌, ◌&&◌, ℕ, List, Option, None, Some, IsTrue};
 ghost use Rattle.fl_transport.specs.declared.fault.Fault.{Fault as SessionFault};
 ghost use Rattle.lockd_faults.specs.declared.fault.CommandFault.{CommandFault};
-ghost use Rattle.lockd_resume.specs.Behind.{EndsBehind};
-ghost use Rattle.lockd_resume.specs.Ending.{Ends, EndsUntraced, told_of};
+ghost use Rattle.lockd_faults.specs.Ending.{Ends, EndsBehind, EndsUntraced, told_of};
 
-use fl_session::Fault;
-use lockd_faults::{CommandFault, Observer, Status, Untraced, end, print_fault};
+use crate::fault::{CommandFault, print_fault};
+use crate::observer::{Observer, Untraced};
+use crate::status::{Status, end, end_without_file};
+use fl_transport::Fault;
 use std::io;
 use std::io::Write;
 
@@ -46,7 +47,7 @@ pub fn end_unopened<F: Write, O: Observer>(
 }
 
 /// Ends a session behind a trace whose file is said to be whole or not.
-pub(crate) fn end_resumed<F: Write>(faults: &mut F, fault: Option<Fault>, whole: bool) -> Status
+pub fn end_resumed<F: Write>(faults: &mut F, fault: Option<Fault>, whole: bool) -> Status
     ensures ends { EndsBehind fault whole (record {
       status = result;
       told = F.contents faults.old;
@@ -98,4 +99,24 @@ pub fn end_untraced<F: Write>(faults: &mut F, fault: Option<Fault>) -> Status
             status
         }
     }
+}
+
+/// Ends a server with this status, whose trace's file was whole or not. If it was whole, and isn't there any more, that
+/// is told.
+pub fn end_at<F: Write>(faults: &mut F, status: Status, whole: bool, there: bool) -> Status
+    ensures { (fault : Option SessionFault) (told : Option (List ℕ))
+        → EndsBehind fault whole (record { status = status; told = told; told_now = F.contents faults.old })
+        → EndsBehind fault (whole && there) (record {
+          status = result;
+          told = told;
+          told_now = F.contents faults.new;
+        }) }
+{
+    if !whole {
+        return status;
+    }
+    if there {
+        return status;
+    }
+    end_without_file(faults, status)
 }

@@ -1,9 +1,8 @@
 use Rattle.std.proofs.Common.{true, sym, subst}
 use Rattle.std.specs.Prelude.{◌&&◌}
-use Rattle.lockd_resume.specs.Behind.{EndsBehind}
-use Rattle.lockd_resume.specs.Ending.{Ending}
-use Rattle.lockd_resume.proofs.BehindLemmas.{gone}
-use Rattle.lockd_resume.proofs.resume_file.end_at.Goals as goal
+use Rattle.lockd_faults.specs.Ending.{Ending, EndsBehind}
+use Rattle.lockd_faults.proofs.EndingLemmas.{gone}
+use Rattle.lockd_faults.proofs.ending.end_at.Goals as goal
 
 pub returns : goal.returns
 returns g c = λ fault told ends.

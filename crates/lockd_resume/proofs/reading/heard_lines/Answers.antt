@@ -1,14 +1,9 @@
 use Rattle.std.proofs.Common.{◌∙◌, rules, sym, subst}
 use Rattle.fl_audit.specs.First.{IsSoOfAll}
-use Rattle.fl_audit.specs.declared.finding.AuditFault.TheVariants.{NoMemory}
 use Rattle.lockd_resume.specs.Behind.{FileSays}
 use Rattle.lockd_resume.specs.Heard.{IsHeardBefore}
 use Rattle.lockd_resume.proofs.BehindLemmas.{unread}
-use Rattle.lockd_resume.proofs.resume_file.resumed_from.Goals as goal
-
-pub returns-in_default-clause-error : goal.returns-in_default-clause-error
-returns-in_default-clause-error g c =
-    unread c.args.rules (g.P.PiecesBefore.left c.args.before.now) (g.S.Read.remaining c.args.file.now) NoMemory (λ n is. absurd (cc is))
+use Rattle.lockd_resume.proofs.reading.heard_lines.Goals as goal
 
 pub returns-in-Err-clause-error : goal.returns-in-Err-clause-error
 returns-in-Err-clause-error g c =
@@ -20,4 +15,4 @@ returns-in-Err-clause-error g c =
 pub returns-clause-heard : goal.returns-clause-heard
 returns-clause-heard g c =
     subst (λ lines. IsHeardBefore c.args.rules (g.P.PiecesBefore.left c.args.before.now) lines c.in-Ok-with_before.last.past.items)
-    (c.in-Ok-hear_cut.ensures.recent ∙ sym c.in-Ok-gone_on.ensures.past) c.in-Ok-with_before.ensures.heard
+    (c.in-Ok.ensures.recent ∙ sym c.in-Ok-gone_on.ensures.past) c.in-Ok-with_before.ensures.heard
