@@ -87,6 +87,8 @@ parts_stay : (names more : List ℕ) (s : ShortOp) → NamesAreThere names s
 parts_stay names more (short.Lock what kind pid flags fh owner start end) n = (refl, tt)
 parts_stay names more (short.Create what excl mode span) n =
     (ap (λ b. (what, body.Create excl mode b)) (bytes_stay names more span n.within), named_stay names more span n)
+parts_stay names more (short.Make what mode span) n =
+    (ap (λ b. (what, body.Make mode b)) (bytes_stay names more span n.within), named_stay names more span n)
 parts_stay names more (short.Name what span) n = (ap (λ b. (what, body.Name b)) (bytes_stay names more span n.within), named_stay names more span n)
 parts_stay names more (short.Number what m) n = (refl, tt)
 parts_stay names more (short.Flush what fh owner) n = (refl, tt)

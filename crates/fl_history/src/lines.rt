@@ -298,6 +298,10 @@ fn opened_parts(op: &ShortOp, names: &ChunkedVec<u8>) -> (OpKind, Body)
             let name = name_at(names, name);
             (what, Body::Create { excl, mode, name })
         }
+        ShortOp::Make { what, mode, name } => {
+            let name = name_at(names, name);
+            (what, Body::Make { mode, name })
+        }
         ShortOp::Name(what, name) => (what, Body::Name(name_at(names, name))),
         ShortOp::Number(what, n) => (what, Body::Number(n)),
         ShortOp::Flush { what, fh, owner } => (what, Body::Flush { fh, owner }),

@@ -85,6 +85,11 @@ pub(crate) enum ShortOp {
         mode: u32,
         name: NameSpan,
     },
+    Make {
+        what: OpKind,
+        mode: u32,
+        name: NameSpan,
+    },
     Name(OpKind, NameSpan),
     Number(OpKind, u64),
     Flush {
@@ -108,7 +113,7 @@ pub(crate) fn name_in(body: &Body) -> &[u8]
     ensures name { IsName result.now }
 {
     match body {
-        Body::Create { name, .. } | Body::Name(name) => name.as_bytes(),
+        Body::Create { name, .. } | Body::Make { name, .. } | Body::Name(name) => name.as_bytes(),
         _ => &[],
     }
 }
@@ -126,6 +131,11 @@ pub(crate) fn short_op(what: OpKind, body: &Body, name: NameSpan) -> ShortOp
         } => ShortOp::Create {
             what,
             excl: *excl,
+            mode: *mode,
+            name,
+        },
+        Body::Make { mode, name: _ } => ShortOp::Make {
+            what,
             mode: *mode,
             name,
         },

@@ -65,7 +65,10 @@ pub enum BoxedOp {
 #[derive(Clone, Copy)]
 pub enum Naming {
     Lookup,
+    Mknod { mode: u32 },
+    Mkdir { mode: u32 },
     Unlink,
+    Rmdir,
     Create { excl: bool, mode: u32 },
 }
 
@@ -114,7 +117,10 @@ impl FreeBoxes {
             Op::Lookup(name) => self.named(rt, Naming::Lookup, name)?,
             Op::Forget(n) => BoxedOp::Forget(*n),
             Op::Getattr => BoxedOp::Getattr,
+            Op::Mknod { mode, name } => self.named(rt, Naming::Mknod { mode: *mode }, name)?,
+            Op::Mkdir { mode, name } => self.named(rt, Naming::Mkdir { mode: *mode }, name)?,
             Op::Unlink(name) => self.named(rt, Naming::Unlink, name)?,
+            Op::Rmdir(name) => self.named(rt, Naming::Rmdir, name)?,
             Op::Open => BoxedOp::Open,
             Op::Release { fh, drop, owner } => BoxedOp::Release {
                 fh: *fh,
@@ -192,7 +198,10 @@ impl FreeBoxes {
     {
         let op = match asked {
             Naming::Lookup => Op::Lookup(*boxed),
+            Naming::Mknod { mode } => Op::Mknod { mode, name: *boxed },
+            Naming::Mkdir { mode } => Op::Mkdir { mode, name: *boxed },
             Naming::Unlink => Op::Unlink(*boxed),
+            Naming::Rmdir => Op::Rmdir(*boxed),
             Naming::Create { excl, mode } => Op::Create {
                 excl,
                 mode,

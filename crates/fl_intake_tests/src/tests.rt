@@ -30,11 +30,11 @@ fn lock(unique: u64) -> LockAsk {
     }
 }
 
-// What is asked by the order with this unique: twelve in a batch are of all kinds, and their names have 1 or 255 bytes.
+// What is asked by the order with this unique: fifteen in a row are of all kinds, and their names have 1 or 255 bytes.
 fn op(rt: &impl Abort, unique: u64) -> Op {
-    match unique % 12 {
+    match unique % 15 {
         0 => Op::Create {
-            excl: unique % 24 == 0,
+            excl: unique % 30 == 0,
             mode: (unique % 511) as u32,
             name: name(rt, unique, 255),
         },
@@ -52,9 +52,18 @@ fn op(rt: &impl Abort, unique: u64) -> Op {
         9 => Op::Open,
         10 => Op::Release {
             fh: unique / 2,
-            drop: unique % 24 == 10,
+            drop: unique % 30 == 10,
             owner: unique / 3,
         },
+        11 => Op::Mknod {
+            mode: (unique % 65_521) as u32,
+            name: name(rt, unique, 255),
+        },
+        12 => Op::Mkdir {
+            mode: (unique % 65_519) as u32,
+            name: name(rt, unique, 1),
+        },
+        13 => Op::Rmdir(name(rt, unique, 255)),
         _ => Op::Interrupt(unique / 2),
     }
 }

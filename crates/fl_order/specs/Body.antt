@@ -8,6 +8,7 @@ use Rattle.fl_order.specs.declared.body.Shape.TheVariants as shape
 abbrev pub body_shape : Body → Shape
 body_shape (body.Lock ask) = shape.Lock
 body_shape (body.Create excl mode name) = shape.Create
+body_shape (body.Make mode name) = shape.Make
 body_shape (body.Name name) = shape.Name
 body_shape (body.Number n) = shape.Number
 body_shape (body.Flush fh owner) = shape.Flush

@@ -11,7 +11,7 @@ use Rattle.fl_order.specs.declared.errno.Errno.TheVariants.{EPROTO}
 use Rattle.fl_order.specs.declared.kind.OpKind.{OpKind}
 use Rattle.fl_order.specs.declared.kind.OpKind.TheVariants.{Lookup, Forget, Getattr, Unlink, Open, Release, Flush, Init}
 use Rattle.fl_order.specs.declared.kind.OpKind.TheVariants.{Getlk, Setlk, Setlkw, Create, Interrupt, Destroy}
-use Rattle.fl_order.specs.declared.kind.OpKind.TheVariants.{BatchForget}
+use Rattle.fl_order.specs.declared.kind.OpKind.TheVariants.{BatchForget, Mknod, Mkdir, Rmdir}
 use Rattle.fl_order.specs.declared.refusal.Refusal.{Refusal}
 use Rattle.fl_order.specs.declared.refusal.Refusal.TheVariants.{Answer, Silent, Destroy as Ends}
 
@@ -20,7 +20,7 @@ abbrev pub all_kinds : List OpKind
 all_kinds =
     Lookup ∷ Forget ∷ Getattr ∷ Unlink ∷ Open ∷ Release ∷ Flush ∷ Init ∷ Getlk ∷ Setlk ∷ Setlkw ∷ Create ∷ Interrupt
     ∷ Destroy
-    ∷ BatchForget ∷ []
+    ∷ BatchForget ∷ Mknod ∷ Mkdir ∷ Rmdir ∷ []
 
 -- the number in a message's header, the word in a trace's line, and the shape of the body; if its messages are no
 -- orders, how they are refused
@@ -50,6 +50,9 @@ signature_of Create = signature 35 (codes "create") (Ok shape.Create)
 signature_of Interrupt = signature 36 (codes "interrupt") (Ok shape.Number)
 signature_of Destroy = signature 38 (codes "destroy") (Err Ends)
 signature_of BatchForget = signature 42 (codes "batch_forget") (Err Silent)
+signature_of Mknod = signature 8 (codes "mknod") (Ok shape.Make)
+signature_of Mkdir = signature 9 (codes "mkdir") (Ok shape.Make)
+signature_of Rmdir = signature 11 (codes "rmdir") (Ok shape.Name)
 
 -- the number that a message's header has
 abbrev pub opcode_for : OpKind → ℕ

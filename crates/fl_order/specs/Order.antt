@@ -6,14 +6,17 @@ use Rattle.fl_order.specs.declared.kind.OpKind.{OpKind}
 use Rattle.fl_order.specs.declared.kind.OpKind.TheVariants as kind
 use Rattle.fl_order.specs.declared.order.Op.{Op}
 use Rattle.fl_order.specs.declared.order.Op.TheVariants.{Lookup, Forget, Getattr, Unlink, Open, Release, Flush}
-use Rattle.fl_order.specs.declared.order.Op.TheVariants.{Create, Getlk, Setlk, Setlkw, Interrupt}
+use Rattle.fl_order.specs.declared.order.Op.TheVariants.{Create, Getlk, Setlk, Setlkw, Interrupt, Mknod, Mkdir, Rmdir}
 
 -- the kind of its message, and the body
 abbrev pub parts_of : Op → OpKind × Body
 parts_of (Lookup name) = (kind.Lookup, body.Name name)
 parts_of (Forget n) = (kind.Forget, body.Number n)
 parts_of Getattr = (kind.Getattr, body.Getattr)
+parts_of (Mknod mode name) = (kind.Mknod, body.Make mode name)
+parts_of (Mkdir mode name) = (kind.Mkdir, body.Make mode name)
 parts_of (Unlink name) = (kind.Unlink, body.Name name)
+parts_of (Rmdir name) = (kind.Rmdir, body.Name name)
 parts_of Open = (kind.Open, body.Open)
 parts_of (Release fh unlocks owner) = (kind.Release, body.Release fh unlocks owner)
 parts_of (Flush fh owner) = (kind.Flush, body.Flush fh owner)
@@ -36,7 +39,10 @@ abbrev pub op_of : OpKind → Body → Option Op
 op_of kind.Lookup (body.Name name) = Some (Lookup name)
 op_of kind.Forget (body.Number n) = Some (Forget n)
 op_of kind.Getattr body.Getattr = Some Getattr
+op_of kind.Mknod (body.Make mode name) = Some (Mknod mode name)
+op_of kind.Mkdir (body.Make mode name) = Some (Mkdir mode name)
 op_of kind.Unlink (body.Name name) = Some (Unlink name)
+op_of kind.Rmdir (body.Name name) = Some (Rmdir name)
 op_of kind.Open body.Open = Some Open
 op_of kind.Release (body.Release fh unlocks owner) = Some (Release fh unlocks owner)
 op_of kind.Flush (body.Flush fh owner) = Some (Flush fh owner)

@@ -28,10 +28,11 @@ pub record FitsLock (ask : LockAsk) : Type 0 where
   pub pid : ask.pid < 2 ^ 32
   pub flags : ask.flags < 2 ^ 32
 
--- so do those of a body; a mode has permissions alone, which are octal 777
+-- so do those of a body; the mode of a CREATE has permissions alone, which are octal 777
 abbrev pub FitsBody : Body → Type 0
 FitsBody (body.Lock ask) = FitsLock ask
 FitsBody (body.Create excl mode name) = (mode < 512) × IsName name
+FitsBody (body.Make mode name) = (mode < 2 ^ 32) × IsName name
 FitsBody (body.Name name) = IsName name
 FitsBody (body.Number n) = n < 2 ^ 64
 FitsBody (body.Flush fh owner) = (fh < 2 ^ 64) × (owner < 2 ^ 64)

@@ -18,6 +18,13 @@ pub enum Body {
         /// The file's name.
         name: Name,
     },
+    /// A mode with its file type, and a name (`struct fuse_mknod_in`, `struct fuse_mkdir_in`).
+    Make {
+        /// The mode, as it was sent.
+        mode: u32,
+        /// The name of what is made.
+        name: Name,
+    },
     /// A name alone.
     Name(Name),
     /// One number (`struct fuse_forget_in`).
@@ -51,6 +58,9 @@ pub enum Shape {
     Lock,
     /// 16 bytes, `struct fuse_create_in`, and then a name with a zero byte.
     Create,
+    /// 16 bytes, `struct fuse_mknod_in`, or for a MKDIR eight, `struct fuse_mkdir_in`, and then a name with a zero
+    /// byte.
+    Make,
     /// A name with a zero byte: at least one byte.
     Name,
     /// Eight bytes.

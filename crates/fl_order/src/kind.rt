@@ -15,8 +15,14 @@ pub enum OpKind {
     Forget = 2,
     /// Tells a node's attributes.
     Getattr = 3,
-    /// Takes a name away.
+    /// Makes a file, and doesn't open it.
+    Mknod = 8,
+    /// Makes a folder.
+    Mkdir = 9,
+    /// Takes a file's name away.
     Unlink = 10,
+    /// Takes a folder's name away.
+    Rmdir = 11,
     /// Opens a node.
     Open = 14,
     /// Closes an open file.
@@ -42,7 +48,7 @@ pub enum OpKind {
 }
 
 // Each kind once.
-const ALL: [OpKind; 15] = [
+const ALL: [OpKind; 18] = [
     OpKind::Lookup,
     OpKind::Forget,
     OpKind::Getattr,
@@ -58,6 +64,9 @@ const ALL: [OpKind; 15] = [
     OpKind::Interrupt,
     OpKind::Destroy,
     OpKind::BatchForget,
+    OpKind::Mknod,
+    OpKind::Mkdir,
+    OpKind::Rmdir,
 ];
 
 impl OpKind {
@@ -100,6 +109,9 @@ impl OpKind {
             OpKind::Interrupt => ("interrupt", Ok(Shape::Number)),
             OpKind::Destroy => ("destroy", Err(Refusal::Destroy)),
             OpKind::BatchForget => ("batch_forget", Err(Refusal::Silent)),
+            OpKind::Mknod => ("mknod", Ok(Shape::Make)),
+            OpKind::Mkdir => ("mkdir", Ok(Shape::Make)),
+            OpKind::Rmdir => ("rmdir", Ok(Shape::Name)),
         }
     }
 

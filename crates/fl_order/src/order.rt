@@ -42,8 +42,24 @@ pub enum Op {
     Forget(u64),
     /// Tells the node's attributes (FUSE_GETATTR).
     Getattr,
-    /// Takes the name away (FUSE_UNLINK).
+    /// Makes the file of this name, and counts one lookup of it (FUSE_MKNOD; `mknod(2)` of Linux).
+    Mknod {
+        /// The file type and the permissions.
+        mode: u32,
+        /// The file's name.
+        name: Name,
+    },
+    /// Makes the folder of this name, and counts one lookup of it (FUSE_MKDIR; `mkdir` of POSIX.1-2017).
+    Mkdir {
+        /// The permissions.
+        mode: u32,
+        /// The folder's name.
+        name: Name,
+    },
+    /// Takes the name of a file away (FUSE_UNLINK).
     Unlink(Name),
+    /// Takes the name of a folder away (FUSE_RMDIR; `rmdir` of POSIX.1-2017).
+    Rmdir(Name),
     /// Opens the node (FUSE_OPEN).
     Open,
     /// Closes an open file (FUSE_RELEASE). With `drop` the owner's whole-file lock goes
@@ -100,7 +116,10 @@ impl Op {
             Op::Lookup(name) => (OpKind::Lookup, Body::Name(name)),
             Op::Forget(n) => (OpKind::Forget, Body::Number(n)),
             Op::Getattr => (OpKind::Getattr, Body::Getattr),
+            Op::Mknod { mode, name } => (OpKind::Mknod, Body::Make { mode, name }),
+            Op::Mkdir { mode, name } => (OpKind::Mkdir, Body::Make { mode, name }),
             Op::Unlink(name) => (OpKind::Unlink, Body::Name(name)),
+            Op::Rmdir(name) => (OpKind::Rmdir, Body::Name(name)),
             Op::Open => (OpKind::Open, Body::Open),
             Op::Release { fh, drop, owner } => (OpKind::Release, Body::Release { fh, drop, owner }),
             Op::Flush { fh, owner } => (OpKind::Flush, Body::Flush { fh, owner }),
@@ -134,7 +153,10 @@ impl Op {
             (OpKind::Lookup, Body::Name(name)) => Some(Op::Lookup(name)),
             (OpKind::Forget, Body::Number(n)) => Some(Op::Forget(n)),
             (OpKind::Getattr, Body::Getattr) => Some(Op::Getattr),
+            (OpKind::Mknod, Body::Make { mode, name }) => Some(Op::Mknod { mode, name }),
+            (OpKind::Mkdir, Body::Make { mode, name }) => Some(Op::Mkdir { mode, name }),
             (OpKind::Unlink, Body::Name(name)) => Some(Op::Unlink(name)),
+            (OpKind::Rmdir, Body::Name(name)) => Some(Op::Rmdir(name)),
             (OpKind::Open, Body::Open) => Some(Op::Open),
             (OpKind::Release, Body::Release { fh, drop, owner }) => Some(Op::Release {
                 fh,

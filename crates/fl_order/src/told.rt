@@ -16,7 +16,7 @@ pub struct Told {
 pub enum Answer {
     /// It is done.
     Done,
-    /// A name was looked up.
+    /// A name was looked up, or made, and isn't open.
     Entry(Attr),
     /// A node's attributes.
     Attr(Attr),
@@ -44,7 +44,7 @@ pub struct Attr {
     pub node: u64,
     /// The file type and the permissions, as `st_mode` of POSIX.1-2017 `sys/stat.h`.
     pub mode: u32,
-    /// How many names it has.
+    /// How many links it has: a file one while it has its name, and a folder two.
     pub nlink: u32,
     /// The user who owns it.
     pub uid: u32,

@@ -105,7 +105,7 @@ fn state_fits(state: StateLine) -> bool
     true
 }
 
-// Whether what is asked can be said: every number of a program fits its field, and only a mode can be too great.
+// Whether what is asked can be said. Every number of a program fits its field; only a CREATE's mode can be too great.
 fn order_fits(order: Order) -> bool
     ensures { IsTrue result ↔ IsSayable order }
 {

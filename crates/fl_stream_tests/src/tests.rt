@@ -39,9 +39,15 @@ tell 10 err 2
 ask 1 11 2 0 0 0 forget 3
 ask 1 12 0 0 0 0 interrupt 5
 tell 12 err 11
+ask 1 13 1 0 0 0 mknod 33188 70
+tell 13 entry 3 33188 1 0 0
+ask 1 14 1 0 0 0 mkdir 511 64
+tell 14 entry 4 16895 2 0 0
+ask 1 15 1 0 0 0 rmdir 64
+tell 15 ok
 ";
 
-const LINES: usize = 23;
+const LINES: usize = 29;
 
 fn history_of(rt: &impl Abort, alloc: Global, text: &str) -> History {
     read_trace(alloc, text.as_bytes()).expect(rt, "no trace")

@@ -103,6 +103,10 @@ module _ (w : AreReadBack) where
       let e : length (spaced (flag_text excl ∷ decimal mode ∷ name_text name ∷ [])) ≤ 1 + 1 + 532 =
       word (flag_text excl) (decimal mode ∷ name_text name ∷ []) 1 532 (flag_short excl) more in
       omega (arith, e)
+  fields_short (body.Make mode name) f =
+      let last : length (spaced (name_text name ∷ [])) ≤ 511 = word (name_text name) [] 510 0 (w.name_is_short name f.1) nothing in
+      let e : length (spaced (decimal mode ∷ name_text name ∷ [])) ≤ 21 + 511 = u32_number mode (name_text name ∷ []) 511 f.0 last in
+      omega (arith, e)
   fields_short (body.Name name) f =
       let e : length (spaced (name_text name ∷ [])) ≤ 510 + 1 + 0 = word (name_text name) [] 510 0 (w.name_is_short name f) nothing in omega (arith, e)
   fields_short (body.Number n) f = let e = number n [] 0 f nothing in omega (arith, e)

@@ -34,6 +34,7 @@ lock_ask_words a = decimal a.fh ∷ decimal a.owner ∷ decimal a.start ∷ deci
 abbrev pub field_words : Body → List (List ℕ)
 field_words (body.Lock ask) = lock_ask_words ask
 field_words (body.Create excl mode name) = flag_text excl ∷ decimal mode ∷ name_text name ∷ []
+field_words (body.Make mode name) = decimal mode ∷ name_text name ∷ []
 field_words (body.Name name) = name_text name ∷ []
 field_words (body.Number n) = decimal n ∷ []
 field_words (body.Flush fh owner) = decimal fh ∷ decimal owner ∷ []
@@ -76,6 +77,7 @@ line_words (State line) = state_words line
 body_spaced : (word : List ℕ) (b : Body) → spaced (word ∷ field_words b) ≡ word ++ behind (fields_text b)
 body_spaced word (body.Lock ask) = refl
 body_spaced word (body.Create excl mode name) = refl
+body_spaced word (body.Make mode name) = refl
 body_spaced word (body.Name name) = refl
 body_spaced word (body.Number n) = refl
 body_spaced word (body.Flush fh owner) = refl
@@ -146,6 +148,7 @@ module _ (w : AreReadBack) where
   fields_are : (b : Body) → FitsBody b → AllByRecursion IsVisible (field_words b)
   fields_are (body.Lock ask) f = lock_ask_are ask f
   fields_are (body.Create excl mode name) f = let few = f.0 in (flag_word excl, (w.number_is_visible mode (omega arith), (w.name_is_visible name f.1, tt)))
+  fields_are (body.Make mode name) f = (u32_word mode f.0, (w.name_is_visible name f.1, tt))
   fields_are (body.Name name) f = (w.name_is_visible name f, tt)
   fields_are (body.Number n) f = (w.number_is_visible n f, tt)
   fields_are (body.Flush fh owner) f = (w.number_is_visible fh f.0, (w.number_is_visible owner f.1, tt))

@@ -62,6 +62,7 @@ lock_ask_of ws = record {
 
 abbrev pub body_of_words : Result Shape Refusal → List (List ℕ) → Body
 body_of_words (Ok shape.Create) ws = body.Create (bytes_eq (word_at ws 0) (codes "1")) (number_at ws 1) (name_of_word (word_at ws 2))
+body_of_words (Ok shape.Make) ws = body.Make (number_at ws 0) (name_of_word (word_at ws 1))
 body_of_words (Ok shape.Name) ws = body.Name (name_of_word (word_at ws 0))
 body_of_words (Ok shape.Number) ws = body.Number (number_at ws 0)
 body_of_words (Ok shape.Flush) ws = body.Flush (number_at ws 0) (number_at ws 1)
@@ -198,6 +199,7 @@ module _ (w : AreReadBack) where
   body_back : (b : Body) → FitsBody b → body_of_words (Ok (body_shape b)) (field_words b) ≡ b
   body_back (body.Lock ask) f = λ i. body.Lock (lock_ask_back ask f i)
   body_back (body.Create excl mode name) f = let few = f.0 in λ i. body.Create (flag_back excl i) (w.number mode (omega arith) i) (w.name name f.1 i)
+  body_back (body.Make mode name) f = λ i. body.Make (value32 mode f.0 i) (w.name name f.1 i)
   body_back (body.Name name) f = λ i. body.Name (w.name name f i)
   body_back (body.Number n) f = λ i. body.Number (w.number n f i)
   body_back (body.Flush fh owner) f = λ i. body.Flush (w.number fh f.0 i) (w.number owner f.1 i)

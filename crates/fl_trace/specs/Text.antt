@@ -25,6 +25,7 @@ use Rattle.fl_words.specs.Words.{spaced, flag_text, name_text, behind}
 abbrev pub fields_text : Body → Option (List ℕ)
 fields_text (body.Lock ask) = Some (lock_ask_text ask)
 fields_text (body.Create excl mode name) = Some (spaced (flag_text excl ∷ decimal mode ∷ name_text name ∷ []))
+fields_text (body.Make mode name) = Some (spaced (decimal mode ∷ name_text name ∷ []))
 fields_text (body.Name name) = Some (name_text name)
 fields_text (body.Number n) = Some (decimal n)
 fields_text (body.Flush fh owner) = Some (spaced (decimal fh ∷ decimal owner ∷ []))

@@ -5,7 +5,7 @@ ghost use Rattle.std.specs.Option.{option_copied};
 ghost use Rattle.fl_order.specs.Body.{body_shape};
 ghost use Rattle.fl_order.specs.Sayable.{FitsBody, FitsOp, IsSayable};
 ghost use Rattle.fl_order.specs.declared.body.Body.{Body};
-ghost use Rattle.fl_order.specs.declared.body.Shape.TheVariants.{Create, Flush, Release};
+ghost use Rattle.fl_order.specs.declared.body.Shape.TheVariants.{Create, Flush, Make, Release};
 ghost use Rattle.fl_order.specs.declared.order.Order.{Order};
 ghost use Rattle.fl_order.specs.declared.order.Op.{Op};
 ghost use Rattle.fl_trace.specs.Text.{order_text, op_text, fields_text};
@@ -59,6 +59,7 @@ fn read_body(shape: Shape, fields: Option<&str>) -> Option<Body>
     match (shape, fields) {
         (Shape::Lock, Some(text)) => Some(Body::Lock(read_lock_ask(text)?)),
         (Shape::Create, Some(text)) => read_create(text),
+        (Shape::Make, Some(text)) => read_make(text),
         (Shape::Name, Some(text)) => Some(Body::Name(name(text)?)),
         (Shape::Number, Some(text)) => Some(Body::Number(number(text)?)),
         (Shape::Flush, Some(text)) => read_flush(text),
@@ -83,6 +84,18 @@ fn read_create(text: &str) -> Option<Body>
     }
     let name = name(rest)?;
     Some(Body::Create { excl, mode, name })
+}
+
+fn read_make(text: &str) -> Option<Body>
+    ensures shape { IfSome result (λ body. body_shape body ≡ Make) }
+    ensures fits { IfSome result FitsBody }
+    ensures spelled { IfSome result (λ body. Some text.now ≡ fields_text body) }
+    ensures only { (body : Body) → body_shape body ≡ Make → FitsBody body → Some text.now ≡ fields_text body →
+        IsSome result }
+{
+    let (mode, rest) = u32_word(text)?;
+    let name = name(rest)?;
+    Some(Body::Make { mode, name })
 }
 
 fn read_flush(text: &str) -> Option<Body>

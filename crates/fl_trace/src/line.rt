@@ -116,6 +116,10 @@ fn push_fields(text: &mut Vec<u8>, body: &Body)
             push_number(text, u64::from(*mode));
             push_name(text, name);
         }
+        Body::Make { mode, name } => {
+            push_number(text, u64::from(*mode));
+            push_name(text, name);
+        }
         Body::Name(name) => push_name(text, name),
         Body::Number(n) => push_number(text, *n),
         Body::Flush { fh, owner } => push_numbers(text, &[*fh, *owner]),

@@ -28,15 +28,15 @@ pub struct Rules {
     /// Whether a request for a record lock also waits behind an older one that waits: of another owner, on the same
     /// node, with a byte in common, if one of the two is for a write lock. Whole-file locks have no part in it.
     pub fair: bool,
-    /// Whether a session with one worker is *whole*: it also answers READDIR, STATFS and READ, and has errors of its
-    /// own for LINK, SYMLINK, RENAME and WRITE. Otherwise all are ENOSYS. No order is answered by it, so no trace names
-    /// it.
+    /// Whether a session with one worker is *whole*: it also takes MKNOD, MKDIR and RMDIR, answers READDIR, STATFS and
+    /// READ, and has errors of its own for LINK, SYMLINK, RENAME and WRITE. Otherwise all are ENOSYS. What an order is
+    /// answered that is taken doesn't depend on it, so no trace names it.
     pub whole: bool,
     /// The most runs of locked bytes, over all files and both classes.
     pub runs: u32,
     /// The most parked requests at once.
     pub parked: u32,
-    /// The most files at once: nodes that have a name, lookups or an open file. The root isn't counted.
+    /// The most files and folders at once: nodes that have a name, lookups or an open file. The root isn't counted.
     pub files: u32,
     /// The most open files (fh) at once.
     pub open_files: u32,

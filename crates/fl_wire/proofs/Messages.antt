@@ -32,9 +32,9 @@ use Rattle.fl_order.specs.declared.refusal.Refusal.TheVariants.{Answer, Batch}
 use Rattle.fl_wire.specs.Batch.{is_batch, pairs_said}
 use Rattle.fl_wire.specs.Body.{name_bytes, name_in, by_fields, by_fields_and_name}
 use Rattle.fl_wire.specs.Layout.{number_at, values_at, field, laid_out, in_header, create_in, flush_in, forget_in}
-use Rattle.fl_wire.specs.Layout.{getattr_in, lk_in, open_in, release_in, opcode_of, unique_of}
-use Rattle.fl_wire.specs.Message.{lock_values, create_values, release_values, body_bytes, request, message_of}
-use Rattle.fl_wire.specs.Message.{ReadsBack}
+use Rattle.fl_wire.specs.Layout.{getattr_in, lk_in, make_in, open_in, release_in, opcode_of, unique_of}
+use Rattle.fl_wire.specs.Message.{lock_values, create_values, make_values, release_values, body_bytes, request}
+use Rattle.fl_wire.specs.Message.{message_of, ReadsBack}
 use Rattle.fl_wire.specs.Says.{said, asked, asked_by, asked_with, body_in, order_of, lock_of, create_of, release_of}
 
 -- what stands in the fields of a header
@@ -46,13 +46,17 @@ pub record Heads (bytes : List ℕ) (opcode unique node uid gid pid : ℕ) : Typ
   pub gid_is : field in_header 5 0 bytes ≡ gid
   pub pid_is : field in_header 6 0 bytes ≡ pid
 
+opcode_again : (o u n i g p : ℕ) (body : List ℕ) → o < 2 ^ 32 → opcode_of (request o u n i g p body) ≡ o
+unfolding number_at request
+opcode_again o u n i g p body ho = little_number-reads_back 4 o (drop 8 (request o u n i g p body)) ho
+
 pub heads : (o u n i g p : ℕ) (body : List ℕ) → o < 2 ^ 32 → u < 2 ^ 64 → n < 2 ^ 64 → i < 2 ^ 32 → g < 2 ^ 32 → p < 2 ^ 32 →
     Heads (request o u n i g p body) o u n i g p
 unfolding number_at request
 heads o u n i g p body ho hu hn hi hg hp =
     let bytes : List ℕ = request o u n i g p body in
     record {
-      opcode_is = little_number-reads_back 4 o (drop 8 bytes) ho;
+      opcode_is = opcode_again o u n i g p body ho;
       unique_is = little_number-reads_back 8 u (drop 16 bytes) hu;
       node_is = little_number-reads_back 8 n (drop 24 bytes) hn;
       uid_is = little_number-reads_back 4 i (drop 28 bytes) hi;
@@ -167,6 +171,22 @@ flags_fit false = lit< tt
 mode_again : (mode : ℕ) → mode < 512 → bit_and mode 511 ≡ mode
 mode_again mode small = and_mask mode 9 ∙ mod-eq_of_lt small
 
+-- the mode of a MKDIR or a MKNOD is read back
+made_mode_again : (opcode mode : ℕ) → slice_index (make_values opcode mode) 0 ≡ mode
+made_mode_again opcode mode = go (opcode == 9)
+  where
+    go : (short : Bool) → slice_index (if short then mode ∷ 0 ∷ [] else mode ∷ 0 ∷ 0 ∷ 0 ∷ []) 0 ≡ mode
+    go true = refl
+    go false = refl
+
+make_fits : (opcode mode : ℕ) → mode < 2 ^ 32 → FitAll (make_in opcode) (make_values opcode mode)
+make_fits opcode mode small = go (opcode == 9)
+  where
+    go : (short : Bool)
+        → FitAll (if short then 4 ∷ 4 ∷ [] else 4 ∷ 4 ∷ 4 ∷ 4 ∷ []) (if short then mode ∷ 0 ∷ [] else mode ∷ 0 ∷ 0 ∷ 0 ∷ [])
+    go true = (small, (lit< tt, tt))
+    go false = (small, (lit< tt, (lit< tt, (lit< tt, tt))))
+
 lock_fits : (a : LockAsk) → FitsLock a → FitAll lk_in (lock_values a)
 lock_fits a h = (h.fh, (h.owner, (h.start, (h.end, (h.kind, (h.pid, (h.flags, (lit< tt, tt))))))))
 
@@ -179,25 +199,32 @@ release_flags_fit true = lit< tt
 release_flags_fit false = lit< tt
 
 -- a body is read back where it was laid out
-body_again : (o u n i g p : ℕ) (body : Body) → FitsBody body → body_in (body_shape body) (request o u n i g p (body_bytes body)) ≡ Ok body
-body_again o u n i g p (body.Lock a) h =
+body_again : (o u n i g p : ℕ) (body : Body) → o < 2 ^ 32 → FitsBody body
+    → body_in (body_shape body) (request o u n i g p (body_bytes o body)) ≡ Ok body
+body_again o u n i g p (body.Lock a) ho h =
     fields_again o u n i g p lk_in (lock_values a) (λ values. body.Lock (lock_of values)) (lock_fits a h)
-body_again o u n i g p (body.Create excl mode name) h =
+body_again o u n i g p (body.Create excl mode name) ho h =
     let fit : FitAll create_in (create_values excl mode) = (flags_fit excl, (omega (arith, h.0), (lit< tt, (lit< tt, tt)))) in
     let flags = flags_again excl in
     let permissions = mode_again mode h.0 in
     named_again o u n i g p create_in (create_values excl mode) name create_of fit h.1 ∙ (λ k. Ok (body.Create (flags k) (permissions k) name))
-body_again o u n i g p (body.Name name) h = named_again o u n i g p [] [] name (λ values name. body.Name name) tt h
-body_again o u n i g p (body.Number x) h = fields_again o u n i g p forget_in (x ∷ []) (λ values. body.Number (slice_index values 0)) (h, tt)
-body_again o u n i g p (body.Flush fh owner) h =
+body_again o u n i g p (body.Make mode name) ho h =
+    let bytes : List ℕ = request o u n i g p (body_bytes o (body.Make mode name)) in
+    let asks : List ℕ → List ℕ → Body = λ values name. body.Make (slice_index values 0) name in
+    let named = named_again o u n i g p (make_in o) (make_values o mode) name asks (make_fits o mode h.0) h.1 in
+    ap (λ opcode. by_fields_and_name (make_in opcode) asks bytes) (opcode_again o u n i g p (body_bytes o (body.Make mode name)) ho)
+    ∙ named ∙ ap (λ n. Ok (body.Make n name)) (made_mode_again o mode)
+body_again o u n i g p (body.Name name) ho h = named_again o u n i g p [] [] name (λ values name. body.Name name) tt h
+body_again o u n i g p (body.Number x) ho h = fields_again o u n i g p forget_in (x ∷ []) (λ values. body.Number (slice_index values 0)) (h, tt)
+body_again o u n i g p (body.Flush fh owner) ho h =
     fields_again o u n i g p flush_in (fh ∷ 0 ∷ 0 ∷ owner ∷ []) (λ values. body.Flush (slice_index values 0) (slice_index values 3))
     (h.0, (lit< tt, (lit< tt, (h.1, tt))))
-body_again o u n i g p (body.Release fh unlocks owner) h =
+body_again o u n i g p (body.Release fh unlocks owner) ho h =
     let flags = release_flags_again unlocks in
     fields_again o u n i g p release_in (release_values fh unlocks owner) release_of (h.0, (lit< tt, (release_flags_fit unlocks, (h.1, tt))))
     ∙ (λ k. Ok (body.Release fh (flags k) owner))
-body_again o u n i g p body.Getattr h = fields_again o u n i g p getattr_in (0 ∷ 0 ∷ 0 ∷ []) (λ values. body.Getattr) (lit< tt, (lit< tt, (lit< tt, tt)))
-body_again o u n i g p body.Open h = fields_again o u n i g p open_in (0 ∷ 0 ∷ []) (λ values. body.Open) (lit< tt, (lit< tt, tt))
+body_again o u n i g p body.Getattr ho h = fields_again o u n i g p getattr_in (0 ∷ 0 ∷ 0 ∷ []) (λ values. body.Getattr) (lit< tt, (lit< tt, (lit< tt, tt)))
+body_again o u n i g p body.Open ho h = fields_again o u n i g p open_in (0 ∷ 0 ∷ []) (λ values. body.Open) (lit< tt, (lit< tt, tt))
 
 -- an order is made of its parts
 parts_made : (op : Op) → op_of (kind_of op) (body_of op) ≡ Some op
@@ -223,11 +250,11 @@ said_again order h =
     let o = opcode_for kind in
     let bytes : List ℕ = message_of order in
     order_again bytes o order.unique order.node order.uid order.gid order.pid order.op
-    (heads o order.unique order.node order.uid order.gid order.pid (body_bytes (body_of order.op)) (opcode_fits kind) h.unique h.node h.uid h.gid h.pid)
+    (heads o order.unique order.node order.uid order.gid order.pid (body_bytes o (body_of order.op)) (opcode_fits kind) h.unique h.node h.uid h.gid h.pid)
     (no_batch order.op)
     (ap (λ k. asked k bytes) (opcode_finds kind)
     ∙ ap (λ s. asked_by kind s bytes) (shape_made order.op)
-    ∙ ap (asked_with kind) (body_again o order.unique order.node order.uid order.gid order.pid (body_of order.op) h.op)
+    ∙ ap (asked_with kind) (body_again o order.unique order.node order.uid order.gid order.pid (body_of order.op) (opcode_fits kind) h.op)
     ∙ ap (λ made. ok_or made (Answer ENOSYS)) (parts_made order.op))
 
 pub reads_back : (bytes : List ℕ) (result : Result Order Refusal) → result ≡ said bytes → ReadsBack bytes result

@@ -1,6 +1,6 @@
 -- The structs of Linux `fuse.h` (protocol 7.31) as lists of the widths of their fields, in bytes. Fields
 -- stand in the struct's order, without gaps, and each is a number whose lowest byte is first.
-use Rattle.std.specs.Prelude.{ℕ, ◌+◌, List, [], ◌∷◌, ◌++◌, drop, slice_index}
+use Rattle.std.specs.Prelude.{ℕ, ◌+◌, ◌==◌, if◌then◌else◌, List, [], ◌∷◌, ◌++◌, drop, slice_index}
 use Rattle.byteorder.specs.Endian.{little_number, little_bytes}
 
 -- the number in `width` bytes from byte `start` on
@@ -61,6 +61,18 @@ flush_in = 8 ∷ 4 ∷ 4 ∷ 8 ∷ []
 -- struct fuse_create_in: flags, mode, umask, padding
 abbrev pub create_in : List ℕ
 create_in = 4 ∷ 4 ∷ 4 ∷ 4 ∷ []
+
+-- struct fuse_mknod_in: mode, rdev, umask, padding
+abbrev pub mknod_in : List ℕ
+mknod_in = 4 ∷ 4 ∷ 4 ∷ 4 ∷ []
+
+-- struct fuse_mkdir_in: mode, umask
+abbrev pub mkdir_in : List ℕ
+mkdir_in = 4 ∷ 4 ∷ []
+
+-- the fields of a MKDIR (opcode 9), or else of a MKNOD
+abbrev pub make_in : ℕ → List ℕ
+make_in opcode = if opcode == 9 then mkdir_in else mknod_in
 
 -- struct fuse_lk_in: fh, owner, the lock's start, end, type and pid, lk_flags, padding
 abbrev pub lk_in : List ℕ

@@ -18,7 +18,7 @@ use Rattle.fl_order.specs.declared.refusal.Refusal.{Refusal}
 use Rattle.fl_order.specs.declared.refusal.Refusal.TheVariants.{Answer, Batch}
 use Rattle.fl_wire.specs.Batch.{is_batch}
 use Rattle.fl_wire.specs.Body.{by_fields, by_fields_and_name}
-use Rattle.fl_wire.specs.Layout.{field, in_header, create_in, flush_in, forget_in, getattr_in, lk_in, open_in}
+use Rattle.fl_wire.specs.Layout.{field, in_header, create_in, flush_in, forget_in, getattr_in, lk_in, make_in, open_in}
 use Rattle.fl_wire.specs.Layout.{release_in}
 use Rattle.fl_wire.specs.Layout.{opcode_of, unique_of}
 
@@ -50,6 +50,8 @@ release_of values =
 abbrev pub body_in : Shape → List ℕ → Result Body Errno
 body_in shape.Lock bytes = by_fields lk_in (λ values. body.Lock (lock_of values)) bytes
 body_in shape.Create bytes = by_fields_and_name create_in create_of bytes
+body_in shape.Make bytes =
+    by_fields_and_name (make_in (opcode_of bytes)) (λ values name. body.Make (slice_index values 0) name) bytes
 body_in shape.Name bytes = by_fields_and_name [] (λ values name. body.Name name) bytes
 body_in shape.Number bytes = by_fields forget_in (λ values. body.Number (slice_index values 0)) bytes
 body_in shape.Flush bytes =

@@ -1,13 +1,13 @@
 //! The reading of an order out of a message, or how that is refused.
 
-ghost use Rattle.std.specs.Prelude.{◌≡◌, ◌+◌, ◌<◌, ◌≤◌, ◌==◌, length, IfOk, IfSome, IsErr, IsNone, IsSome, OnOk};
+ghost use Rattle.std.specs.Prelude.{◌≡◌, ◌+◌, ◌<◌, ◌≤◌, ◌==◌, length, sum, IfOk, IfSome, IsErr, IsNone, IsSome, OnOk};
 ghost use Rattle.std.specs.Prelude.{Some, Ok, Err, if◌then◌else◌};
 ghost use Rattle.std.specs.Result.{result_map_both};
 ghost use Rattle.fl_order.specs.Name.{IsName};
 ghost use Rattle.fl_order.specs.OpKind.{kind_of_opcode, shape_for};
 ghost use Rattle.fl_order.specs.Sayable.{FitsBody, FitsLock, FitsOp, IsSayable};
 ghost use Rattle.fl_wire.specs.Body.{name_behind, name_in};
-ghost use Rattle.fl_wire.specs.Layout.{opcode_of};
+ghost use Rattle.fl_wire.specs.Layout.{make_in, opcode_of};
 ghost use Rattle.fl_wire.specs.Says.{body_in, order_of, said};
 ghost use Rattle.fl_wire.specs.Single.{fault_of};
 
@@ -56,12 +56,14 @@ fn order_asking(op: Op, frame: &Frame) -> Order
 
 // The body of this shape.
 fn body_in(shape: Shape, message: &[u8]) -> Result<Body, Errno>
+    requires { 40 ≤ length message.now }
     ensures value { result ≡ body_in shape message.now }
     ensures fits { IfOk result FitsBody }
 {
     match shape {
         Shape::Lock => Ok(Body::Lock(lock_ask(message)?)),
         Shape::Create => create_body(message),
+        Shape::Make => make_body(message),
         Shape::Name => Ok(Body::Name(name_behind(message, 0)?)),
         Shape::Number => number_body(message),
         Shape::Flush => flush_body(message),
@@ -73,10 +75,12 @@ fn body_in(shape: Shape, message: &[u8]) -> Result<Body, Errno>
 
 // Why a message has no body of this shape, if it has none.
 pub(crate) fn fault_in(shape: Shape, message: &[u8]) -> Option<Errno>
+    requires { 40 ≤ length message.now }
     ensures { result ≡ fault_of (body_in shape message.now) }
 {
     let len = match shape {
         Shape::Create => return name_behind(message, 16).err(),
+        Shape::Make => return name_behind(message, make_len(message)).err(),
         Shape::Name => return name_behind(message, 0).err(),
         Shape::Lock => 88,
         Shape::Flush | Shape::Release => 64,
@@ -118,6 +122,33 @@ fn create_body(message: &[u8]) -> Result<Body, Errno>
     Ok(Body::Create {
         excl: u32_at(message, 40) & O_EXCL != 0,
         mode: u32_at(message, 44) & PERMISSIONS,
+        name,
+    })
+}
+
+// How many bytes the fields of a MKDIR have, or else those of a MKNOD.
+fn make_len(message: &[u8]) -> usize
+    requires { 40 ≤ length message.now }
+    ensures value { result ≡ sum (make_in (opcode_of message.now)) }
+    ensures least { 8 ≤ result }
+    ensures most { result ≤ 16 }
+{
+    if u32_at(message, 4) == OpKind::Mkdir.opcode() {
+        8
+    } else {
+        16
+    }
+}
+
+// The body of a MKNOD or a MKDIR.
+fn make_body(message: &[u8]) -> Result<Body, Errno>
+    requires { 40 ≤ length message.now }
+    ensures value { result ≡ body_in Shape.Make message.now }
+    ensures fits { IfOk result FitsBody }
+{
+    let name = name_behind(message, make_len(message))?;
+    Ok(Body::Make {
+        mode: u32_at(message, 40),
         name,
     })
 }

@@ -1,11 +1,11 @@
-//! What a message asks that is no order, and that whole sessions answer.
+//! What messages ask that whole sessions alone answer.
 
-ghost use Rattle.std.specs.Prelude.{◌≡◌, ◌≤◌, length, Err, IsSome};
+ghost use Rattle.std.specs.Prelude.{◌≡◌, ◌≢◌, ◌≤◌, true, length, Err, IsSome};
 ghost use Rattle.fl_order.specs.declared.errno.Errno.TheVariants.{ENOSYS};
-ghost use Rattle.fl_order.specs.declared.refusal.Refusal.TheVariants.{Answer};
+ghost use Rattle.fl_order.specs.declared.refusal.Refusal.TheVariants.{Answer, Destroy};
 ghost use Rattle.fl_wire.specs.Layout.{opcode_of};
 ghost use Rattle.fl_wire.specs.Says.{said};
-ghost use Rattle.fl_wire.specs.Whole.{list_ask, whole_ask};
+ghost use Rattle.fl_wire.specs.Whole.{is_for_whole, list_ask, whole_ask};
 
 use crate::frame::Frame;
 use crate::layout::{u32_at, u64_at};
@@ -13,6 +13,12 @@ use fl_order::Errno;
 
 // The kinds of message, with the numbers of `enum fuse_opcode` (Linux `fuse.h`).
 const SYMLINK: u32 = 6;
+
+const MKNOD: u32 = 8;
+
+const MKDIR: u32 = 9;
+
+const RMDIR: u32 = 11;
 
 const RENAME: u32 = 12;
 
@@ -49,6 +55,14 @@ pub enum WholeAsk {
 }
 
 impl<'a> Frame<'a> {
+    /// Whether whole sessions alone take it as an order: MKNOD, MKDIR and RMDIR.
+    pub fn is_for_whole(&self) -> bool
+        ensures is { result ≡ is_for_whole self.now }
+        ensures no_end { result ≡ true → said self.now ≢ Err Destroy }
+    {
+        matches!(self.opcode(), MKNOD | MKDIR | RMDIR)
+    }
+
     /// What it asks that is no order, and that whole sessions answer: READDIR (EINVAL for a body of another length),
     /// STATFS and READ; also LINK and SYMLINK (EPERM), RENAME and RENAME2 (EOPNOTSUPP) and WRITE (EFBIG). None for any
     /// other kind.

@@ -20,6 +20,9 @@ const ASKED: [u64; 6] = [
 // The greatest numbers behind `create`: whether a file that is there is an error, and permissions.
 const CREATED: [u64; 2] = [1, 0o777];
 
+// The greatest number behind `mknod` and `mkdir`: a mode.
+const MADE: [u64; 1] = [u32::MAX as u64];
+
 // What may stand behind the unique of a reply.
 const REPLIES: [&str; 7] = ["ok", "entry", "attr", "open", "made", "lock", "err"];
 
@@ -182,7 +185,8 @@ fn why_asked(text: &str) -> Why<'_> {
     }
     match OpKind::of_word(word) {
         Some(OpKind::Create) => why_named(word, &CREATED, fields),
-        Some(OpKind::Lookup | OpKind::Unlink) => why_named(word, &[], fields),
+        Some(OpKind::Mknod | OpKind::Mkdir) => why_named(word, &MADE, fields),
+        Some(OpKind::Lookup | OpKind::Unlink | OpKind::Rmdir) => why_named(word, &[], fields),
         Some(kind) if kind.shape().is_ok() => why_fields(word, fields),
         _ => Why::Word("no order is named ", word, ""),
     }

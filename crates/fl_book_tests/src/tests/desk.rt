@@ -53,6 +53,34 @@ tell 3 err 4
 tell 4 ok
 ";
 
+// A folder stays empty. Its name goes by RMDIR alone, and then a file can have it; a file's name goes by UNLINK alone.
+const FOLDERS: &str = "\
+ask 0 1 1 1000 100 0 mkdir 33261 64
+tell 1 entry 2 16877 2 1000 100
+ask 0 2 1 1000 100 0 mknod 33188 61
+tell 2 entry 3 33188 1 1000 100
+ask 0 3 1 0 0 0 mknod 8630 62
+tell 3 err 1
+ask 0 4 2 0 0 0 lookup 61
+tell 4 err 2
+ask 0 5 2 0 0 0 mkdir 511 61
+tell 5 err 1
+ask 0 6 2 0 0 0 rmdir 61
+tell 6 err 2
+ask 0 7 1 0 0 0 rmdir 61
+tell 7 err 20
+ask 0 8 1 0 0 0 unlink 64
+tell 8 err 21
+ask 0 9 1 0 0 0 mkdir 511 64
+tell 9 err 17
+ask 0 10 1 0 0 0 rmdir 64
+tell 10 ok
+ask 0 11 1 0 0 0 mknod 438 64
+tell 11 entry 4 33206 1 0 0
+ask 0 12 2 0 0 0 getattr
+tell 12 attr 2 16877 0 1000 100
+";
+
 // A line of each order, answer and error, with small and with great numbers. They need not be legal together.
 const WORDS: &str = "\
 ask 0 1 2 3 4 5 create 1 420 61ff
@@ -61,6 +89,12 @@ ask 0 1 2 3 4 5 lookup 61ff
 ask 0 1 2 3 4 5 lookup -
 ask 0 1 2 3 4 5 unlink 61ff
 ask 0 1 2 3 4 5 unlink -
+ask 0 1 2 3 4 5 rmdir 61ff
+ask 0 1 2 3 4 5 rmdir -
+ask 0 1 2 3 4 5 mknod 33188 61ff
+ask 0 1 2 3 4 5 mknod 4294967295 -
+ask 0 1 2 3 4 5 mkdir 0 61ff
+ask 0 1 2 3 4 5 mkdir 4294967295 -
 ask 0 1 2 3 4 5 forget 0
 ask 0 1 2 3 4 5 forget 18446744073709551615
 ask 0 1 2 3 4 5 getattr
@@ -116,7 +150,7 @@ fn a_text_there_and_back(rt: HostRuntime) {
     no_text_is_that_of_two_histories();
     a_text_breaks_at_one_line_at_most();
     let history = read(&rt, rt.alloc(), WORDS);
-    is_text(&rt, rt.alloc(), &history, 41, WORDS);
+    is_text(&rt, rt.alloc(), &history, 47, WORDS);
 }
 
 #[test]
@@ -207,6 +241,7 @@ fn a_desk_lends_its_arenas(rt: HostRuntime) {
 fn traces_are_judged(rt: HostRuntime) {
     is_judged(&rt, rt.alloc(), "", false, Verdict::Legal, true);
     is_judged(&rt, rt.alloc(), LOCKS, false, Verdict::Legal, true);
+    is_judged(&rt, rt.alloc(), FOLDERS, false, Verdict::Legal, true);
     is_judged(
         &rt,
         rt.alloc(),

@@ -25,6 +25,7 @@ use Rattle.fl_order.specs.declared.told.Answer.TheVariants.{Done}
 -- the bytes of the name in a body, none if it names nothing
 abbrev pub name_in : Body → List ℕ
 name_in (body.Create excl mode name) = name
+name_in (body.Make mode name) = name
 name_in (body.Name name) = name
 name_in _ = []
 
@@ -36,6 +37,7 @@ short_lock kind a = short.Lock kind a.kind a.pid a.flags a.fh a.owner a.start a.
 abbrev pub short_op : NameSpan → OpKind → Body → ShortOp
 short_op span kind (body.Lock ask) = short_lock kind ask
 short_op span kind (body.Create excl mode name) = short.Create kind excl mode span
+short_op span kind (body.Make mode name) = short.Make kind mode span
 short_op span kind (body.Name name) = short.Name kind span
 short_op span kind (body.Number n) = short.Number kind n
 short_op span kind (body.Flush fh owner) = short.Flush kind fh owner
@@ -67,6 +69,7 @@ opened_parts names (short.Lock what kind pid flags fh owner start end) = (
       (record { fh = fh; owner = owner; start = start; end = end; kind = kind; pid = pid; flags = flags }),
 )
 opened_parts names (short.Create what excl mode span) = (what, body.Create excl mode (bytes_at names span))
+opened_parts names (short.Make what mode span) = (what, body.Make mode (bytes_at names span))
 opened_parts names (short.Name what span) = (what, body.Name (bytes_at names span))
 opened_parts names (short.Number what n) = (what, body.Number n)
 opened_parts names (short.Flush what fh owner) = (what, body.Flush fh owner)
@@ -132,6 +135,7 @@ pub record IsNamed (names : List ℕ) (span : NameSpan) : Type 0 where
 -- what was asked names what is there
 abbrev pub NamesAreThere : List ℕ → ShortOp → Type 0
 NamesAreThere names (short.Create what excl mode span) = IsNamed names span
+NamesAreThere names (short.Make what mode span) = IsNamed names span
 NamesAreThere names (short.Name what span) = IsNamed names span
 NamesAreThere names _ = Unit {0}
 

@@ -3,7 +3,7 @@ use Rattle.std.specs.Prelude.{ℕ, List}
 use Rattle.fl_order.specs.declared.order.Op.{Op}
 use Rattle.fl_order.specs.declared.order.Op.TheVariants as op
 use Rattle.fl_intake.specs.declared.entry.Naming.{Naming}
-use Rattle.fl_intake.specs.declared.entry.Naming.TheVariants.{Lookup, Unlink, Create}
+use Rattle.fl_intake.specs.declared.entry.Naming.TheVariants.{Lookup, Mknod, Mkdir, Unlink, Rmdir, Create}
 use Rattle.fl_intake.specs.declared.entry.BoxedOp.{BoxedOp}
 use Rattle.fl_intake.specs.declared.entry.BoxedOp.TheVariants.{Named, Forget, Getattr, Open, Release, Flush}
 use Rattle.fl_intake.specs.declared.entry.BoxedOp.TheVariants.{Getlk, Setlk, Setlkw, Interrupt}
@@ -11,7 +11,10 @@ use Rattle.fl_intake.specs.declared.entry.BoxedOp.TheVariants.{Getlk, Setlk, Set
 -- the op that asks this about a name
 abbrev pub about : Naming → List ℕ → Op
 about Lookup name = op.Lookup name
+about (Mknod mode) name = op.Mknod mode name
+about (Mkdir mode) name = op.Mkdir mode name
 about Unlink name = op.Unlink name
+about Rmdir name = op.Rmdir name
 about (Create excl mode) name = op.Create excl mode name
 
 -- the op, with its name out of the box

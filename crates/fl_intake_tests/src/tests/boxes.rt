@@ -12,7 +12,7 @@ use std::sync::Wait;
 
 // The unique of an order with a name of 255 bytes, for each number another name than for the next.
 fn named(number: u64) -> u64 {
-    number.saturating_mul(12)
+    number.saturating_mul(15)
 }
 
 // Puts two such orders, and takes the first alone and the second with all others.
