@@ -3,7 +3,7 @@ use Rattle.std.proofs.Common.{Bool, true, false, cond, ℕ, Option, Some, None, 
 use Rattle.std.specs.FinMap.{get, remove}
 use Rattle.fl_core.specs.Effects.{listing_answered, listing_replied, listing_unanswered}
 use Rattle.fl_core.specs.Kept.{IsRuled}
-use Rattle.fl_dir.specs.Changes.{after_close, after_lookup, after_open, after_reply, after_unlink, swept, swept_node, unlinked}
+use Rattle.fl_dir.specs.Changes.{after_close, after_lookup, after_make, after_open, after_reply, after_unlink, swept, swept_node, unlinked}
 use Rattle.fl_dir.specs.Directory.{Listing, linked}
 use Rattle.fl_dir.specs.OpenFiles.{lives}
 use Rattle.fl_dir.specs.declared.node.Node.{Node}
@@ -12,7 +12,7 @@ use Rattle.fl_order.specs.declared.told.Answer.{Answer}
 use Rattle.fl_order.specs.declared.told.Answer.TheVariants.{Entry, Open as Opened, Made}
 use Rattle.fl_order.specs.declared.order.Order.{Order}
 use Rattle.fl_order.specs.declared.order.Op.{Op}
-use Rattle.fl_order.specs.declared.order.Op.TheVariants.{Lookup, Forget, Unlink, Open, Release, Create}
+use Rattle.fl_order.specs.declared.order.Op.TheVariants.{Lookup, Forget, Unlink, Open, Release, Create, Mknod, Mkdir, Rmdir}
 use Rattle.fl_waiting.specs.declared.rules.Rules.{Rules}
 
 module _ (rules : Rules) where
@@ -35,6 +35,10 @@ module _ (rules : Rules) where
   ruled_reply d node (Ok (Made attr fh)) ruled = record { nodes = ruled.nodes; files = ruled.files }
   ruled_reply d node other ruled = ruled
 
+  ruled_make : (d : Listing) (node : Node) (reply : Result Answer Errno) → IsRuled rules d → IsRuled rules (after_make d node reply)
+  ruled_make d node (Ok (Entry attr)) ruled = record { nodes = ruled.nodes; files = ruled.files }
+  ruled_make d node other ruled = ruled
+
   ruled_open : (d : Listing) (node : ℕ) (reply : Result Answer Errno) → IsRuled rules d → IsRuled rules (after_open d node reply)
   ruled_open d node (Ok (Opened fh)) ruled = record { nodes = ruled.nodes; files = ruled.files }
   ruled_open d node other ruled = ruled
@@ -54,6 +58,9 @@ module _ (rules : Rules) where
   ruled_answered : (order : Order) (op : Op) (reply : Result Answer Errno) (d : Listing) → IsRuled rules d → IsRuled rules (listing_answered order op reply d)
   ruled_answered order (Lookup name) reply d ruled = ruled_lookup d reply ruled
   ruled_answered order (Unlink name) reply d ruled = ruled_unlink d name reply ruled
+  ruled_answered order (Mknod mode name) reply d ruled = ruled_make d _ reply ruled
+  ruled_answered order (Mkdir mode name) reply d ruled = ruled_make d _ reply ruled
+  ruled_answered order (Rmdir name) reply d ruled = ruled_unlink d name reply ruled
   ruled_answered order Open reply d ruled = ruled_open d order.node reply ruled
   ruled_answered order (Release fh unlocks owner) reply d ruled = ruled_close d order.node fh reply ruled
   ruled_answered order (Create excl mode name) reply d ruled = ruled_reply d _ reply ruled

@@ -6,7 +6,8 @@ use Rattle.fl_waiting.specs.LockRequest.{stroke_of}
 use Rattle.fl_core.specs.State.{View, State, Snapshot}
 use Rattle.fl_waiting.specs.Waiting.{is_parked, taken_out}
 use Rattle.fl_waiting.specs.declared.parked.Request.{Request}
-use Rattle.fl_dir.specs.Changes.{after_lookup, after_create, after_open, after_unlink, after_forget, after_close}
+use Rattle.fl_dir.specs.Changes.{after_lookup, after_create, after_mkdir, after_mknod, after_open, after_unlink}
+use Rattle.fl_dir.specs.Changes.{after_forget, after_close}
 use Rattle.fl_dir.specs.Directory.{Listing}
 use Rattle.fl_dir.specs.OpenFiles.{has_open_file, without_file}
 use Rattle.fl_order.specs.declared.errno.Errno.{Errno}
@@ -15,7 +16,7 @@ use Rattle.fl_order.specs.declared.told.Told.{Told}
 use Rattle.fl_order.specs.declared.order.Order.{Order}
 use Rattle.fl_order.specs.declared.order.Op.{Op}
 use Rattle.fl_order.specs.declared.order.Op.TheVariants.{Lookup, Forget, Unlink, Open, Release, Flush, Create, Setlk}
-use Rattle.fl_order.specs.declared.order.Op.TheVariants.{Setlkw}
+use Rattle.fl_order.specs.declared.order.Op.TheVariants.{Setlkw, Mknod, Mkdir, Rmdir}
 use Rattle.fl_order.specs.declared.order.LockAsk.{LockAsk}
 use Rattle.fl_marks.specs.declared.lock.Class.{Class}
 use Rattle.fl_marks.specs.declared.lock.Class.TheVariants.{Record, Flock}
@@ -77,6 +78,9 @@ locks_answered order op reply d = []
 abbrev pub listing_answered : Order → Op → Result Answer Errno → Listing → Listing
 listing_answered order (Lookup name) reply d = after_lookup d reply
 listing_answered order (Unlink name) reply d = after_unlink d name reply
+listing_answered order (Mknod mode name) reply d = after_mknod d order.uid order.gid mode name reply
+listing_answered order (Mkdir mode name) reply d = after_mkdir d order.uid order.gid mode name reply
+listing_answered order (Rmdir name) reply d = after_unlink d name reply
 listing_answered order Open reply d = after_open d order.node reply
 listing_answered order (Release fh unlocks owner) reply d = after_close d order.node fh reply
 listing_answered order (Create excl mode name) reply d = after_create d order.uid order.gid mode name reply

@@ -14,7 +14,8 @@ use Rattle.fl_waiting.specs.declared.parked.Request.{Request}
 use Rattle.fl_waiting.specs.declared.rules.Rules.{Rules}
 use Rattle.fl_dir.specs.Directory.{Listing}
 use Rattle.fl_dir.specs.OpenFiles.{is_open_on}
-use Rattle.fl_dir.specs.Replies.{lookup_reply, create_reply, open_reply, getattr_reply, unlink_reply, unless_error}
+use Rattle.fl_dir.specs.Replies.{lookup_reply, create_reply, mkdir_reply, mknod_reply, open_reply, getattr_reply}
+use Rattle.fl_dir.specs.Replies.{rmdir_reply, unlink_reply, unless_error}
 use Rattle.fl_order.specs.declared.errno.Errno.{Errno}
 use Rattle.fl_order.specs.declared.errno.Errno.TheVariants.{EINTR, EBADF, EINVAL, EAGAIN, EDEADLK, ENOLCK}
 use Rattle.fl_order.specs.declared.told.Answer.{Answer}
@@ -23,7 +24,7 @@ use Rattle.fl_order.specs.declared.told.Told.{Told}
 use Rattle.fl_order.specs.declared.order.Order.{Order}
 use Rattle.fl_order.specs.declared.order.Op.{Op}
 use Rattle.fl_order.specs.declared.order.Op.TheVariants.{Lookup, Forget, Getattr, Unlink, Open, Release, Flush}
-use Rattle.fl_order.specs.declared.order.Op.TheVariants.{Create, Getlk, Setlk, Setlkw, Interrupt}
+use Rattle.fl_order.specs.declared.order.Op.TheVariants.{Create, Getlk, Setlk, Setlkw, Interrupt, Mknod, Mkdir, Rmdir}
 use Rattle.fl_order.specs.declared.order.LockAsk.{LockAsk}
 use Rattle.fl_marks.specs.declared.lock.Key.{Key}
 use Rattle.fl_marks.specs.declared.lock.Mark.{Mark}
@@ -95,6 +96,9 @@ abbrev pub directory_reply : Listing → Order → Op → Option (Result Answer 
 directory_reply d order (Lookup name) = Some (lookup_reply d order.node name)
 directory_reply d order Getattr = Some (getattr_reply d order.node)
 directory_reply d order (Unlink name) = Some (unlink_reply d order.node name)
+directory_reply d order (Mknod mode name) = Some (mknod_reply d order.node order.uid order.gid mode name)
+directory_reply d order (Mkdir mode name) = Some (mkdir_reply d order.node order.uid order.gid mode name)
+directory_reply d order (Rmdir name) = Some (rmdir_reply d order.node name)
 directory_reply d order Open = Some (open_reply d order.node)
 directory_reply d order (Create excl mode name) = Some (create_reply d order.node order.uid order.gid excl mode name)
 directory_reply d order op = None

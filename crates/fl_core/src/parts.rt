@@ -226,8 +226,7 @@ impl Parts {
     }
 }
 
-// On how many chains the rows of locks stand: on as many as there may be files, so that those of other files cost
-// nothing, but at least 256, and at most 32,768.
+// As many chains for rows of locks as there may be files, but 256 to 32,768, so that rows of other files cost nothing.
 fn chains_for(files: u32) -> u32
     requires { files ≤ 65536 }
     ensures some { 256 ≤ result }
@@ -242,7 +241,7 @@ fn in_directory(directory: &mut Dir, order: &Order) -> Option<Result<Answer, Err
     ensures reply { result ≡ directory_reply directory.old order.now order.now.op }
     ensures listing { directory.new ≡ listing_replied order.now result directory.old }
 {
-    let node = order.node;
+    let (node, uid, gid) = (order.node, order.uid, order.gid);
     Some(match &order.op {
         Op::Lookup(name) => directory.lookup(node, name),
         Op::Forget(n) => {
@@ -250,11 +249,12 @@ fn in_directory(directory: &mut Dir, order: &Order) -> Option<Result<Answer, Err
             return None;
         }
         Op::Getattr => directory.getattr(node),
+        Op::Mknod { mode, name } => directory.mknod(node, uid, gid, *mode, name),
+        Op::Mkdir { mode, name } => directory.mkdir(node, uid, gid, *mode, name),
         Op::Unlink(name) => directory.unlink(node, name),
+        Op::Rmdir(name) => directory.rmdir(node, name),
         Op::Open => directory.open(node),
-        Op::Create { excl, mode, name } => {
-            directory.create(node, order.uid, order.gid, *excl, *mode, name)
-        }
+        Op::Create { excl, mode, name } => directory.create(node, uid, gid, *excl, *mode, name),
         _ => return None,
     })
 }

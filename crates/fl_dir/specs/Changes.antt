@@ -3,7 +3,7 @@ use Rattle.std.specs.Prelude.{ℕ, ◌+◌, ◌-◌, false, Option, Some, None, 
 use Rattle.std.specs.Ordering.{nat_cmp}
 use Rattle.std.specs.FinMap.{FinMap, get, insert, remove, contains_key}
 use Rattle.fl_dir.specs.declared.node.Node.{Node}
-use Rattle.fl_dir.specs.Directory.{Listing, linked, made_node}
+use Rattle.fl_dir.specs.Directory.{Listing, file_mode, folder_mode, linked, made_node, mknod_mode}
 use Rattle.fl_dir.specs.OpenFiles.{lives, without_file}
 use Rattle.fl_order.specs.declared.errno.Errno.{Errno}
 use Rattle.fl_order.specs.declared.told.Answer.{Answer}
@@ -66,7 +66,21 @@ after_reply d made other = d
 
 -- the directory after a CREATE, by its recorded answer
 abbrev pub after_create : Listing → ℕ → ℕ → ℕ → List ℕ → Result Answer Errno → Listing
-after_create d uid gid mode name reply = after_reply d (made_node uid gid mode name) reply
+after_create d uid gid mode name reply = after_reply d (made_node uid gid (file_mode mode) name) reply
+
+-- the directory after an order that makes this node and doesn't open it, by its recorded answer
+abbrev pub after_make : Listing → Node → Result Answer Errno → Listing
+after_make d made (Ok (Entry attr)) =
+    record d { nodes = insert d.nodes attr.node made; next_node = attr.node + 1 }
+after_make d made other = d
+
+-- the directory after a MKNOD, by its recorded answer
+abbrev pub after_mknod : Listing → ℕ → ℕ → ℕ → List ℕ → Result Answer Errno → Listing
+after_mknod d uid gid mode name reply = after_make d (made_node uid gid (mknod_mode mode) name) reply
+
+-- the directory after a MKDIR, by its recorded answer
+abbrev pub after_mkdir : Listing → ℕ → ℕ → ℕ → List ℕ → Result Answer Errno → Listing
+after_mkdir d uid gid mode name reply = after_make d (made_node uid gid (folder_mode mode) name) reply
 
 -- the directory after an OPEN of the node, by its recorded answer
 abbrev pub after_open : Listing → ℕ → Result Answer Errno → Listing
@@ -78,7 +92,7 @@ abbrev pub unlinked : Listing → Option (ℕ × Node) → Listing
 unlinked d None = d
 unlinked d (Some found) = swept found.0 (record d { nodes = insert d.nodes found.0 (without_link found.1) })
 
--- the directory after an UNLINK of the name, by its recorded answer
+-- the directory after an UNLINK or an RMDIR of the name, by its recorded answer
 abbrev pub after_unlink : Listing → List ℕ → Result Answer Errno → Listing
 after_unlink d name (Ok _) = unlinked d (linked d name)
 after_unlink d name (Err e) = d

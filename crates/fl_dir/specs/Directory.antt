@@ -1,6 +1,7 @@
--- Names and nodes of one flat directory (Linux `fuse.h`: lookup counts and node numbers; POSIX.1-2017 `open`).
-use Rattle.std.specs.Prelude.{ℕ, ◌-◌, ◌^◌, Bool, true, ◌&&◌, ◌||◌, ◌==◌, nat_le, bit_and, bit_or, Option, Some}
-use Rattle.std.specs.Prelude.{option_map, List, [], ◌∷◌, if◌then◌else◌}
+-- Names and nodes of one directory, whose folders are empty (Linux `fuse.h`: lookup counts and node numbers;
+-- POSIX.1-2017 `open`).
+use Rattle.std.specs.Prelude.{ℕ, ◌-◌, ◌^◌, Bool, true, false, ◌&&◌, ◌||◌, ◌==◌, nat_le, bit_and, bit_or, Option, Some}
+use Rattle.std.specs.Prelude.{None, option_map, List, [], ◌∷◌, if◌then◌else◌}
 use Rattle.std.specs.List.{list_any, find}
 use Rattle.std.specs.Ordering.{nat_cmp}
 use Rattle.std.specs.Str.{bytes_eq}
@@ -43,21 +44,50 @@ is_reserved name =
 abbrev pub nodes_full : Listing → Bool
 nodes_full d = nat_le d.most_nodes (len d.nodes) || (d.next_node == 2 ^ 64 - 1)
 
--- a regular file (octal 100000) with the permission bits (octal 777) of a mode
+-- the node is a folder: of the bits of the file type (octal 170000) its mode has those of one (octal 40000)
+abbrev pub is_folder : Node → Bool
+is_folder node = bit_and node.mode 61440 == 16384
+
+-- a node that may be there is a folder
+abbrev pub is_folder_or_none : Option Node → Bool
+is_folder_or_none None = false
+is_folder_or_none (Some node) = is_folder node
+
+-- the node of this number is a folder; the root isn't one of these
+abbrev pub is_folder_at : Listing → ℕ → Bool
+is_folder_at d number = is_folder_or_none (get d.nodes number)
+
+-- a regular file (octal 100000) with the permission bits (octal 777) of a mode, as a CREATE makes it
 abbrev pub file_mode : ℕ → ℕ
 file_mode mode = bit_or 32768 (bit_and mode 511)
 
--- the node that a CREATE makes, by the user and group that ask
+-- a regular file with the permissions of a mode and its bits for S_ISUID, S_ISGID and S_ISVTX (octal 7777)
+abbrev pub mknod_mode : ℕ → ℕ
+mknod_mode mode = bit_or 32768 (bit_and mode 4095)
+
+-- a folder with the same bits of a mode
+abbrev pub folder_mode : ℕ → ℕ
+folder_mode mode = bit_or 16384 (bit_and mode 4095)
+
+-- a mode asks for a regular file: its type is that (octal 100000), or none
+abbrev pub is_regular : ℕ → Bool
+is_regular mode = (bit_and mode 61440 == 32768) || (bit_and mode 61440 == 0)
+
+-- a node that is made with this mode, by the user and group that ask
 abbrev pub made_node : ℕ → ℕ → ℕ → List ℕ → Node
 made_node uid gid mode name =
-    record { lookups = 1; name = name; linked = true; mode = file_mode mode; uid = uid; gid = gid }
+    record { lookups = 1; name = name; linked = true; mode = mode; uid = uid; gid = gid }
 
--- a file's attributes: one that is linked has one name
+-- how many links a node has that is linked: a file has its name, and a folder itself, too
+abbrev pub links : Node → ℕ
+links node = if is_folder node then 2 else 1
+
+-- the attributes of a file or a folder
 abbrev pub attributes : ℕ → Node → Attr
 attributes number node = record {
   node = number;
   mode = node.mode;
-  nlink = if node.linked then 1 else 0;
+  nlink = if node.linked then links node else 0;
   uid = node.uid;
   gid = node.gid;
 }
@@ -66,7 +96,7 @@ attributes number node = record {
 abbrev pub root_attributes : Attr
 root_attributes = record { node = 1; mode = 16877; nlink = 2; uid = 0; gid = 0 }
 
--- the attributes of the root, or of a file that is known
+-- the attributes of the root, or of a node that is known
 abbrev pub attributes_at : Listing → ℕ → Option Attr
 attributes_at d number =
     if number == 1 then Some root_attributes else option_map (attributes number) (get d.nodes number)

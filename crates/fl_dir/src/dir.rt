@@ -1,33 +1,20 @@
 //! The directory and its calls.
 ghost use Rattle.std.specs.Prelude.{◌≡◌, ◌+◌, ◌≤◌, Some, None, IfOk, IfSome, IsSome, OnOk, OnErr, true, false};
+ghost use Rattle.std.specs.Result.{result_err};
 ghost use Rattle.std.specs.FinMap as map;
 ghost use Rattle.fl_dir.specs.Directory.{linked, opening_listing};
-ghost use Rattle.fl_dir.specs.Replies.{
-  directory_error,
-  lookup_reply,
-  created,
-  reopened,
-  create_reply,
-  open_reply,
-  getattr_reply,
-  unlink_reply,
-  close_reply,
-};
+ghost use Rattle.fl_dir.specs.Replies.{names_error, directory_error, lookup_reply, created, reopened, create_reply};
+ghost use Rattle.fl_dir.specs.Replies.{make_reply, mknod_reply, mkdir_reply, open_reply, getattr_reply};
+ghost use Rattle.fl_dir.specs.Replies.{unlink_reply, rmdir_reply, close_reply};
 ghost use Rattle.fl_dir.specs.Restored.{with_numbers};
-ghost use Rattle.fl_dir.specs.Changes.{
-  after_lookup,
-  after_reply,
-  after_create,
-  after_open,
-  after_unlink,
-  after_forget,
-  after_close,
-  changed_at,
-  counted_up,
-};
+ghost use Rattle.fl_dir.specs.Changes.{after_lookup, after_reply, after_create, after_make, after_mknod, after_mkdir};
+ghost use Rattle.fl_dir.specs.Changes.{after_open, after_unlink, after_forget, after_close, changed_at, counted_up};
 
 use crate::names::{Names, is_reserved};
-use crate::node::{Node, attributes, made_node, next_lookups, root_attributes};
+use crate::node::{
+    FILE_TYPE, FOLDER, NODE_BITS, Node, PERMISSIONS, REGULAR_FILE, attributes, is_folder,
+    made_node, next_lookups, root_attributes,
+};
 use crate::nodes::Slot;
 use crate::numbered::Numbered;
 use fl_order::{Answer, Errno, Name, NoMemory};
@@ -43,7 +30,10 @@ pub const MOST_FILES: u32 = 65_536;
 /// The most open files that a directory can be made for.
 pub const MOST_OPEN: u32 = 65_536;
 
-/// Names, nodes and open files of a flat directory. Contracts see them as a `Listing`.
+/// What an order is answered.
+pub type Reply = Result<Answer, Errno>;
+
+/// Names, nodes and open files of a directory. Its folders are empty. Contracts see them as a `Listing`.
 ///
 /// No call but `new` and `try_clone` takes memory. The tests of each call are made in the order of its definition, and
 /// a refusal changes nothing.
@@ -133,19 +123,13 @@ impl Dir {
     }
 
     /// FUSE_LOOKUP of a name in a node: counts one more lookup of the node of this name.
-    pub fn lookup(&mut self, node: u64, name: &Name) -> Result<Answer, Errno>
+    pub fn lookup(&mut self, node: u64, name: &Name) -> Reply
         ensures answer { result ≡ lookup_reply self.old node name.now }
         ensures after { self.new ≡ after_lookup self.old result }
     {
-        if let Some(error) = self.directory_error(node) {
-            return Err(error);
-        }
-        let Some((number, found)) = self.linked(name) else {
-            return Err(Errno::ENOENT);
-        };
-        let Some(lookups) = next_lookups(found) else {
-            return Err(Errno::ENFILE);
-        };
+        self.check_names(node, Errno::ENOENT)?;
+        let (number, found) = self.linked(name).ok_or(Errno::ENOENT)?;
+        let lookups = next_lookups(found).ok_or(Errno::ENFILE)?;
         let attr = attributes(number, found);
         self.set_lookups(number, lookups);
         Ok(Answer::Entry(attr))
@@ -160,32 +144,50 @@ impl Dir {
         excl: bool,
         mode: u32,
         name: &Name,
-    ) -> Result<Answer, Errno>
+    ) -> Reply
         ensures answer { result ≡ create_reply self.old node uid gid excl mode name.now }
         ensures after { self.new ≡ after_create self.old uid gid mode name.now result }
     {
-        if let Some(error) = self.directory_error(node) {
-            return Err(error);
-        }
+        self.check_names(node, Errno::EPERM)?;
         if is_reserved(name) {
             return Err(Errno::EINVAL);
         }
+        let file = REGULAR_FILE | (mode & PERMISSIONS);
         match self.linked(name) {
-            None => self.make(&made_node(uid, gid, mode, name), name),
+            None => self.make(&made_node(uid, gid, file, name), name),
             Some(_) if excl => Err(Errno::EEXIST),
             Some((number, _)) => self.reopen(number),
         }
     }
 
+    /// FUSE_MKNOD, by this user and group: makes a file. EPERM for a mode of another file type.
+    pub fn mknod(&mut self, node: u64, uid: u32, gid: u32, mode: u32, name: &Name) -> Reply
+        ensures answer { result ≡ mknod_reply self.old node uid gid mode name.now }
+        ensures after { self.new ≡ after_mknod self.old uid gid mode name.now result }
+    {
+        let file_type = mode & FILE_TYPE;
+        let new = made_node(uid, gid, REGULAR_FILE | (mode & NODE_BITS), name);
+        self.add(node, file_type == REGULAR_FILE || file_type == 0, &new)
+    }
+
+    /// FUSE_MKDIR, by this user and group: makes a folder.
+    pub fn mkdir(&mut self, node: u64, uid: u32, gid: u32, mode: u32, name: &Name) -> Reply
+        ensures answer { result ≡ mkdir_reply self.old node uid gid mode name.now }
+        ensures after { self.new ≡ after_mkdir self.old uid gid mode name.now result }
+    {
+        let new = made_node(uid, gid, FOLDER | (mode & NODE_BITS), name);
+        self.add(node, true, &new)
+    }
+
     /// FUSE_OPEN: opens the node under the next fh.
-    pub fn open(&mut self, node: u64) -> Result<Answer, Errno>
+    pub fn open(&mut self, node: u64) -> Reply
         ensures answer { result ≡ open_reply self.old node }
         ensures after { self.new ≡ after_open self.old node result }
     {
         if !self.is_known(node) {
             return Err(Errno::ENOENT);
         }
-        if node == ROOT {
+        if node == ROOT || self.is_folder(node) {
             return Err(Errno::EISDIR);
         }
         if self.files_full() {
@@ -195,7 +197,7 @@ impl Dir {
     }
 
     /// FUSE_GETATTR: the node's attributes.
-    pub fn getattr(&self, node: u64) -> Result<Answer, Errno>
+    pub fn getattr(&self, node: u64) -> Reply
         ensures { result ≡ getattr_reply self.now node }
     {
         if node == ROOT {
@@ -207,17 +209,31 @@ impl Dir {
         }
     }
 
-    /// FUSE_UNLINK of a name in a node: the name is free at once. Its node stays while it has lookups or an open fh.
-    pub fn unlink(&mut self, node: u64, name: &Name) -> Result<Answer, Errno>
+    /// FUSE_UNLINK of a file's name in a node: it is free at once. The file stays while it has lookups or an open fh.
+    pub fn unlink(&mut self, node: u64, name: &Name) -> Reply
         ensures answer { result ≡ unlink_reply self.old node name.now }
         ensures after { self.new ≡ after_unlink self.old name.now result }
     {
-        if let Some(error) = self.directory_error(node) {
-            return Err(error);
+        self.check_names(node, Errno::ENOENT)?;
+        let (number, found) = self.linked(name).ok_or(Errno::ENOENT)?;
+        if is_folder(found) {
+            return Err(Errno::EISDIR);
         }
-        let Some((number, _)) = self.linked(name) else {
-            return Err(Errno::ENOENT);
-        };
+        self.free_name(number, name);
+        self.sweep(number);
+        Ok(Answer::Done)
+    }
+
+    /// FUSE_RMDIR of a folder's name in a node: it is free at once. The folder stays while it has lookups.
+    pub fn rmdir(&mut self, node: u64, name: &Name) -> Reply
+        ensures answer { result ≡ rmdir_reply self.old node name.now }
+        ensures after { self.new ≡ after_unlink self.old name.now result }
+    {
+        self.check_names(node, Errno::ENOENT)?;
+        let (number, found) = self.linked(name).ok_or(Errno::ENOENT)?;
+        if !is_folder(found) {
+            return Err(Errno::ENOTDIR);
+        }
         self.free_name(number, name);
         self.sweep(number);
         Ok(Answer::Done)
@@ -248,21 +264,47 @@ impl Dir {
         Ok(Closed { node, last })
     }
 
-    /// Why the node has no names in it: it is unknown (ENOENT), or a file (ENOTDIR).
+    /// Why no name is found in the node: it is unknown, or a folder (ENOENT), or a file (ENOTDIR).
     pub fn directory_error(&self, node: u64) -> Option<Errno>
         ensures { result ≡ directory_error self.now node }
     {
-        if !self.is_known(node) {
-            return Some(Errno::ENOENT);
+        self.check_names(node, Errno::ENOENT).err()
+    }
+
+    // Why no name can be looked for, or made, in a node, if none can. In a folder that isn't the root it is this error.
+    fn check_names(&self, node: u64, in_folder: Errno) -> Result<(), Errno>
+        ensures { result_err result ≡ names_error in_folder self.now node }
+    {
+        if node == ROOT {
+            return Ok(());
         }
-        if node != ROOT {
-            return Some(Errno::ENOTDIR);
+        match self.node_at(node) {
+            None => Err(Errno::ENOENT),
+            Some(found) if is_folder(found) => Err(in_folder),
+            Some(_) => Err(Errno::ENOTDIR),
         }
-        None
+    }
+
+    // Makes this node under its name, if its file type can be made, and doesn't open it.
+    fn add(&mut self, node: u64, can: bool, new: &Node) -> Reply
+        requires { new.now.linked ≡ true }
+        ensures answer { result ≡ make_reply self.old node can new.now }
+        ensures after { self.new ≡ after_make self.old new.now result }
+    {
+        self.check_names(node, Errno::EPERM)?;
+        if is_reserved(&new.name) {
+            return Err(Errno::EINVAL);
+        }
+        match self.linked(&new.name) {
+            Some(_) => Err(Errno::EEXIST),
+            None if !can => Err(Errno::EPERM),
+            None if self.nodes_full() => Err(Errno::ENOSPC),
+            None => Ok(Answer::Entry(attributes(self.link(new, &new.name), new))),
+        }
     }
 
     // Makes a file with this node, which is linked under this name.
-    fn make(&mut self, node: &Node, name: &Name) -> Result<Answer, Errno>
+    fn make(&mut self, node: &Node, name: &Name) -> Reply
         requires named { node.now.name ≡ name.now }
         requires has_it { node.now.linked ≡ true }
         requires free { linked self.old name.now ≡ None }
@@ -279,8 +321,8 @@ impl Dir {
         Ok(Answer::Made(attr, self.open_file(attr.node)))
     }
 
-    // Looks the node of this number up once more, and opens it.
-    fn reopen(&mut self, number: u64) -> Result<Answer, Errno>
+    // Looks the node of this number up once more, and opens it, if it is a file.
+    fn reopen(&mut self, number: u64) -> Reply
         requires { IsSome (map.get self.old.nodes number) }
         ensures answer { IfSome (map.get self.old.nodes number)
             (λ node. result ≡ reopened self.old false (number, node)) }
@@ -294,9 +336,10 @@ impl Dir {
         let Some(found) = self.node_at(number) else {
             unreachable!()
         };
-        let Some(lookups) = next_lookups(found) else {
-            return Err(Errno::ENFILE);
-        };
+        if is_folder(found) {
+            return Err(Errno::EISDIR);
+        }
+        let lookups = next_lookups(found).ok_or(Errno::ENFILE)?;
         if self.files_full() {
             return Err(Errno::ENFILE);
         }

@@ -12,13 +12,12 @@ mod dir;
 mod files;
 mod listing;
 mod names;
-mod naming;
 mod node;
 mod nodes;
 mod numbered;
 mod restoring;
 
 pub use arenas::DirArenas;
-pub use dir::{Closed, Dir, MOST_FILES, MOST_OPEN, ROOT};
+pub use dir::{Closed, Dir, MOST_FILES, MOST_OPEN, ROOT, Reply};
 pub use node::Node;
 pub use nodes::Slot;

@@ -1,22 +1,31 @@
-//! What is kept of a file, and what is told of it.
+//! What is kept of a file or a folder, and what is told of it.
 ghost use Rattle.std.specs.Prelude.{◌≡◌, Some, None, if◌then◌else◌};
-ghost use Rattle.fl_dir.specs.Directory.{made_node, attributes, root_attributes};
+ghost use Rattle.fl_dir.specs.Directory.{made_node, attributes, is_folder, root_attributes};
 ghost use Rattle.fl_dir.specs.Changes.{counted_up};
 ghost use Rattle.fl_dir.specs.Replies.{lookups_full};
 
 use crate::dir::ROOT;
 use fl_order::{Attr, Name};
 
+/// The bits of a mode that say the file type, `S_IFMT`.
+pub(crate) const FILE_TYPE: u32 = 0o170000;
+
 /// The file type of a regular file, `S_IFREG`.
-const REGULAR_FILE: u32 = 0o100000;
+pub(crate) const REGULAR_FILE: u32 = 0o100000;
+
+/// The file type of a folder, `S_IFDIR`.
+pub(crate) const FOLDER: u32 = 0o40000;
 
 /// The permission bits of a mode.
-const PERMISSIONS: u32 = 0o777;
+pub(crate) const PERMISSIONS: u32 = 0o777;
+
+/// These and `S_ISUID`, `S_ISGID` and `S_ISVTX`.
+pub(crate) const NODE_BITS: u32 = 0o7777;
 
 /// The mode of the root: a directory, `S_IFDIR`, that its owner may change and all may read and search.
 const ROOT_MODE: u32 = 0o40755;
 
-/// What is kept of a file.
+/// What is kept of a file or a folder.
 #[derive(Clone, Copy, Debug, PartialEq, Eq)]
 pub struct Node {
     /// How often it was looked up and not yet forgotten (the lookup count of Linux `fuse.h`).
@@ -40,19 +49,26 @@ pub(crate) fn made_node(uid: u32, gid: u32, mode: u32, name: &Name) -> Node
         lookups: 1,
         name: *name,
         linked: true,
-        mode: REGULAR_FILE | (mode & PERMISSIONS),
+        mode,
         uid,
         gid,
     }
 }
 
+pub(crate) fn is_folder(node: &Node) -> bool
+    ensures { result ≡ is_folder node.now }
+{
+    node.mode & FILE_TYPE == FOLDER
+}
+
 pub(crate) fn attributes(number: u64, node: &Node) -> Attr
     ensures { result ≡ attributes number node.now }
 {
+    let links = if is_folder(node) { 2 } else { 1 };
     Attr {
         node: number,
         mode: node.mode,
-        nlink: u32::from(node.linked),
+        nlink: if node.linked { links } else { 0 },
         uid: node.uid,
         gid: node.gid,
     }

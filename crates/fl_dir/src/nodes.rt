@@ -2,14 +2,15 @@
 ghost use Rattle.std.specs.Prelude.{◌≡◌, ◌+◌, ◌==◌, ◌||◌, not, Some, None, IfSome, IsSome, option_map, true, false};
 ghost use Rattle.std.specs.FinMap as map;
 ghost use Rattle.std.specs.Option.{option_copied};
-ghost use Rattle.fl_dir.specs.Directory.{is_known, is_named, linked, nodes_full};
+ghost use Rattle.fl_dir.specs.Directory.{is_folder_at, is_known, is_named, linked, nodes_full};
 ghost use Rattle.fl_dir.specs.Inside.Kept.{has_name, is_dead, left_of};
+ghost use Rattle.fl_dir.specs.Naming.{name_at, is_linked_at};
 ghost use Rattle.fl_dir.specs.OpenFiles.{has_open_file};
 ghost use Rattle.fl_dir.specs.Changes.{swept, changed_at, without_link};
 
 use crate::dir::{Dir, ROOT};
 use crate::names::{hash_of, is_named};
-use crate::node::Node;
+use crate::node::{Node, is_folder};
 use crate::numbered::chain_of;
 use fl_order::Name;
 
@@ -39,6 +40,33 @@ impl Dir {
         match self.nodes.get(number) {
             None => None,
             Some(slot) => Some(&slot.node),
+        }
+    }
+
+    /// Whether a node is a folder. The root isn't one of these.
+    pub fn is_folder(&self, number: u64) -> bool
+        ensures { result ≡ is_folder_at self.now number }
+    {
+        match self.node_at(number) {
+            None => false,
+            Some(node) => is_folder(node),
+        }
+    }
+
+    /// The name under which a node was made; none for the root, and for a number that no node has.
+    pub fn name_of(&self, number: u64) -> Option<Name>
+        ensures { result ≡ name_at self.now number }
+    {
+        Some(self.node_at(number)?.name)
+    }
+
+    /// Whether a node still has its name. The root, and a number that no node has, have none.
+    pub fn is_linked(&self, number: u64) -> bool
+        ensures { result ≡ is_linked_at self.now number }
+    {
+        match self.node_at(number) {
+            None => false,
+            Some(node) => node.linked,
         }
     }
 
