@@ -30,7 +30,7 @@ use Rattle.fl_session.specs.AsOne.{AreAsOne, IsCutInside, NoneRefused, part_of, 
 use Rattle.fl_session.specs.Once.{AllComeAgain, AreNew, resumed, under_way}
 use Rattle.fl_session.specs.Session.{Came, Session, opening_session, recalled_in, session_from, session_of, with_again, with_either, with_incoming}
 use Rattle.fl_session.specs.Session.{with_message, with_order, with_orders, with_recalled}
-use Rattle.fl_transport.specs.Handshake.{advanced, incoming_by, incoming_of}
+use Rattle.fl_transport.specs.Handshake.{advanced, incoming_by, incoming_of, said_to}
 use Rattle.fl_transport.specs.declared.handshake.Handshake.{Handshake}
 use Rattle.fl_transport.specs.declared.handshake.Incoming.{Incoming}
 use Rattle.fl_transport.specs.declared.handshake.Incoming.TheVariants as incoming
@@ -38,7 +38,6 @@ use Rattle.fl_waiting.specs.Waiting.{AllWait, is_parked}
 use Rattle.fl_waiting.specs.declared.rules.Rules.{Rules}
 use Rattle.fl_wire.specs.Batch.{forget_at, forgets_in}
 use Rattle.fl_wire.specs.Layout.{unique_of}
-use Rattle.fl_wire.specs.Says.{said}
 
 -- what is known of the lock directory and of histories
 pub record AreKnown : Type 0 where
@@ -96,7 +95,7 @@ pub message_sound : (s : Session) (c : Came) → IsSound s → IsSound (with_mes
 message_sound s c sound =
     sound_if s.handshake.over s _ sound
     (either_sound (record s { handshake = advanced s.handshake c.message }) (unmarked s.resends (unique_of c.message)) c.refused
-    (incoming_of s.handshake c.message) sound)
+    (incoming_of s.rules.whole s.handshake c.message) sound)
 
 pub session_sound : (s : Session) (came : List Came) → IsSound s → IsSound (session_from s came)
 session_sound s [] sound = sound
@@ -250,10 +249,13 @@ batch_goes laws a b first now count c m far knows lacks sound cut g =
     (λ i. recalled unique (recent (heard i ++ lines i)))
     ∙ ap (λ l. recalled unique (recent l)) (sym (append_assoc first.heard first.lines (asks had)))
     ∙ asks_recalled unique (first.heard ++ first.lines) had (named unique had all) (le_trans (few_taken orders count) cut.few) cut.unknown.unsaid in
-    let it : incoming_by c.message (said c.message) ≡ incoming.Batch orders = ap (incoming_by c.message) cut.is_batch in
+    let it : incoming_by c.message (said_to first.rules.whole c.message) ≡ incoming.Batch orders =
+    ap (incoming_by c.message) cut.is_batch in
     goes_by a b (with_message now m) (with_message first c) (with_orders left (drop count orders) m.refused)
     (with_orders (record part { handshake = moved c.message }) (drop count orders) m.refused)
     (marked_met now c m knows (g.alike.handshake ∙ here) cut.same
+    ∙ ap (λ (r : Rules). with_again left unique m.refused (incoming_by c.message (said_to r.whole c.message)))
+    (g.alike.rules ∙ taken.rules)
     ∙ ap (with_again left unique m.refused) it
     ∙ rest_by (is_parked unique (state_after now.rules now.lines).view.parked) (recalled_in now unique) left
     (length had) orders m.refused free some

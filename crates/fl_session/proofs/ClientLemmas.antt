@@ -1,7 +1,7 @@
 -- A client that sends messages again: the next session has those that the first took, and the others are new to it.
 use Rattle.std.proofs.Common.{◌≡◌, ℕ, zero, suc, ◌+◌, ◌-◌, ◌≤◌, Bool, true, false, ◌||◌, List, [], ◌∷◌, ◌++◌, length, drop, take, map}
 use Rattle.std.proofs.Common.{refl, sym, ap, subst, ◌∙◌, append_assoc, arith, inl, inr, ⊎_elim}
-use Rattle.std.specs.Prelude.{Contains, fold, if◌then◌else◌, ◌==◌, ◌≢◌, Result, Ok, Err, ⊤}
+use Rattle.std.specs.Prelude.{Contains, fold, ◌&&◌, not, if◌then◌else◌, ◌==◌, ◌≢◌, Result, Ok, Err, ⊤}
 use Rattle.std.specs.List.{AllByRecursion}
 use Rattle.std.proofs.lemmas.Bool.{le-leb}
 use Rattle.std.proofs.lemmas.Grind.{fold-append}
@@ -17,6 +17,7 @@ use Rattle.fl_history.specs.declared.history.Line.TheVariants as line
 use Rattle.fl_history.specs.declared.recent.Recalled.{Recalled}
 use Rattle.fl_history.specs.declared.recent.Recalled.TheVariants as recall
 use Rattle.fl_order.specs.OpKind.{kind_of_opcode}
+use Rattle.fl_order.specs.declared.errno.Errno.TheVariants.{ENOSYS}
 use Rattle.fl_order.specs.declared.order.Op.{Op}
 use Rattle.fl_order.specs.declared.order.Order.{Order}
 use Rattle.fl_order.specs.declared.refusal.Refusal.{Refusal}
@@ -28,7 +29,7 @@ use Rattle.fl_session.proofs.NewLemmas.{AllApart, IsKept, Settles, forgets_apart
 use Rattle.fl_session.proofs.OnceLemmas.{goes_on_as_one, moved, over_still, plain_met, resends_from}
 use Rattle.fl_session.proofs.ParkedLemmas.{counted_free, others_counted}
 use Rattle.fl_session.proofs.RecallLemmas.{asks, asks_counted, spoken_said}
-use Rattle.fl_session.proofs.RulesLemmas.{by_message, by_orders, heard_from}
+use Rattle.fl_session.proofs.RulesLemmas.{by_message, by_orders, heard_from, rules_from}
 use Rattle.fl_session.specs.Again.{incoming_under, order_under}
 use Rattle.fl_session.specs.AsOne.{AreAsOne, IsCutInside, IsSentAgain, part_of}
 use Rattle.fl_session.specs.Client.{AreOnesAgain, HasTaken, IsNear}
@@ -36,7 +37,7 @@ use Rattle.fl_session.specs.Known.{AreMarked, HaveNothing, HaveOwnUniques}
 use Rattle.fl_session.specs.Once.{AllComeAgain, ComesAgain, SaysTheSame, has_all, is_had, orders_in, resumed, under_way}
 use Rattle.fl_session.specs.Session.{Came, Session, opening_session, recalled_in, session_from, session_of, with_incoming}
 use Rattle.fl_session.specs.Session.{with_message, with_order, with_orders}
-use Rattle.fl_transport.specs.Handshake.{advanced, incoming_by, says_destroy}
+use Rattle.fl_transport.specs.Handshake.{advanced, incoming_by, said_to, says_destroy}
 use Rattle.fl_transport.specs.declared.handshake.Incoming.{Incoming}
 use Rattle.fl_transport.specs.declared.handshake.Incoming.TheVariants as incoming
 use Rattle.fl_transport.specs.declared.response.Response.{Response}
@@ -45,6 +46,7 @@ use Rattle.fl_waiting.specs.declared.rules.Rules.{Rules}
 use Rattle.fl_wire.specs.Batch.{forget_at, forgets_in, is_batch}
 use Rattle.fl_wire.specs.Layout.{opcode_of, unique_of}
 use Rattle.fl_wire.specs.Says.{asked, order_of, said}
+use Rattle.fl_wire.specs.Whole.{is_for_whole}
 
 -- ---- lines have the orders of a unique
 
@@ -139,10 +141,25 @@ order_of_is message (Err Silent) = tt
 order_of_is message (Err Batch) = forgets_are message _
 order_of_is message (Err Destroy) = tt
 
-pub said_is : (batch : Bool) (message : List ℕ) (op : Result Op Refusal)
+said_is : (batch : Bool) (message : List ℕ) (op : Result Op Refusal)
     → AreOf (unique_of message) (incoming_by message (if batch then Err Batch else order_of message op))
 said_is true message op = forgets_are message _
 said_is false message op = order_of_is message op
+
+to_is : (unknown : Bool) (message : List ℕ) (says : Result Order Refusal)
+    → AreOf (unique_of message) (incoming_by message says)
+    → AreOf (unique_of message) (incoming_by message (if unknown then Err (Answer ENOSYS) else says))
+to_is true message says are = tt
+to_is false message says are = are
+
+pub orders_are : (whole : Bool) (message : List ℕ) → AreOf (unique_of message) (incoming_by message (said_to whole message))
+orders_are whole message =
+    to_is (not whole && is_for_whole message) message (said message)
+    (said_is (is_batch message) message (asked (kind_of_opcode (opcode_of message)) message))
+
+-- how many orders a message is to a session that is whole or isn't
+abbrev pub how_many : Bool → List ℕ → ℕ
+how_many whole message = length (orders_in (incoming_by message (said_to whole message)))
 
 incoming_has : AreKnown → (u : ℕ) (s : Session) (refused : List Bool) (it : Incoming) → IsSound s → HaveNothing u s.lines
     → AreOf u it → (with_incoming s refused it).refused ≡ false
@@ -158,13 +175,13 @@ incoming_has laws u s refused (incoming.Response response) sound none are e = ha
 
 message_has : AreKnown → (s : Session) (c : Came) → s.resends ≡ false → s.handshake ≡ under_way → IsSound s
     → HaveNothing (unique_of c.message) s.lines → (with_message s c).refused ≡ false
-    → HasAll (unique_of c.message) (length (orders_in (incoming_by c.message (said c.message)))) (with_message s c).lines
+    → HasAll (unique_of c.message) (how_many s.rules.whole c.message) (with_message s c).lines
 message_has laws s c lacks far sound none e =
-    let it : Incoming = incoming_by c.message (said c.message) in
+    let it : Incoming = incoming_by c.message (said_to s.rules.whole c.message) in
     let is = plain_met s c lacks far in
     subst (λ (t : Session). HasAll (unique_of c.message) (length (orders_in it)) t.lines) (sym is)
     (incoming_has laws (unique_of c.message) (record s { handshake = moved c.message }) c.refused it sound none
-    (said_is (is_batch c.message) c.message (asked (kind_of_opcode (opcode_of c.message)) c.message))
+    (orders_are s.rules.whole c.message)
     (ap (λ (t : Session). t.refused) (sym is) ∙ e))
 
 over_on : (s : Session) (came : List Came) → s.handshake.over ≡ true → (session_from s came).handshake.over ≡ true
@@ -197,7 +214,8 @@ session_refused s [] lacks far end e = e
 session_refused s (c ∷ came) lacks far end e =
     session_refused (with_message s c) came ((by_message s c).resends ∙ lacks) (goes_on s c came far end).far end
     (ap (λ (t : Session). t.refused) (plain_met s c lacks far)
-    ∙ incoming_refused (record s { handshake = moved c.message }) c.refused (incoming_by c.message (said c.message)) e)
+    ∙ incoming_refused (record s { handshake = moved c.message }) c.refused
+    (incoming_by c.message (said_to s.rules.whole c.message)) e)
 
 none_before : (s : Session) (came : List Came) → s.resends ≡ false → s.handshake ≡ under_way
     → (session_from s came).handshake ≡ under_way → (session_from s came).refused ≡ false → s.refused ≡ false
@@ -216,10 +234,11 @@ session_kept u P kept s (c ∷ came) lacks others so =
     session_kept u P kept (with_message s c) came ((by_message s c).resends ∙ lacks) others.1
     (message_apart u P kept s c lacks others.0 so)
 
--- what is so of the lines once this message is taken as a new one, of which no order is refused
-abbrev pub IsSoOf : Came → (List Line → Type 0) → Type 0
-IsSoOf c P =
-    (t : Session) → t.resends ≡ false → t.handshake ≡ under_way → IsSound t → HaveNothing (unique_of c.message) t.lines
+-- What is so of the lines once this message is taken as a new one, of which no order is refused, by a session that is
+-- whole or isn't.
+abbrev pub IsSoOf : Bool → Came → (List Line → Type 0) → Type 0
+IsSoOf whole c P =
+    (t : Session) → t.rules.whole ≡ whole → t.resends ≡ false → t.handshake ≡ under_way → IsSound t → HaveNothing (unique_of c.message) t.lines
     → (with_message t c).refused ≡ false → P (with_message t c).lines
 
 -- a message ends no session, and this is so of lines
@@ -227,14 +246,14 @@ pub record IsStill (c : Came) (P : List Line → Type 0) (lines : List Line) : T
   pub stays : says_destroy (said c.message) ≡ false
   pub so : P lines
 
-pub still_so : Settles → (s : Session) (taken : List Came) (c : Came) (P : List Line → Type 0) → s.resends ≡ false
-    → s.handshake ≡ under_way → IsSound s → HaveOwnUniques s.lines taken → (session_from s taken).handshake ≡ under_way
-    → (session_from s taken).refused ≡ false → Contains taken c → IsKept (unique_of c.message) P → IsSoOf c P
+pub still_so : Settles → (whole : Bool) (s : Session) (taken : List Came) (c : Came) (P : List Line → Type 0)
+    → s.rules.whole ≡ whole → s.resends ≡ false → s.handshake ≡ under_way → IsSound s → HaveOwnUniques s.lines taken → (session_from s taken).handshake ≡ under_way
+    → (session_from s taken).refused ≡ false → Contains taken c → IsKept (unique_of c.message) P → IsSoOf whole c P
     → IsStill c P (session_from s taken).lines
-still_so settles s [] c P lacks far sound own end e came kept first = absurd (let lt = came.1 in omega (arith, lt))
-still_so settles s (d ∷ taken) c P lacks far sound own end e came kept first =
+still_so settles whole s [] c P same lacks far sound own end e came kept first = absurd (let lt = came.1 in omega (arith, lt))
+still_so settles whole s (d ∷ taken) c P same lacks far sound own end e came kept first =
     ⊎_elim (λ head. here (sym (head_is d c head)))
-    (λ tail. still_so settles now taken c P still on.far (message_sound s d sound)
+    (λ tail. still_so settles whole now taken c P (ap (λ (r : Rules). r.whole) (by_message s d).rules ∙ same) still on.far (message_sound s d sound)
     (still_own settles [] s d taken lacks own.1 own.2) end e tail kept first)
     (Contains-append_cases (d ∷ []) taken c came)
   where
@@ -254,7 +273,7 @@ still_so settles s (d ∷ taken) c P lacks far sound own end e came kept first =
         record {
           stays = ap (λ (x : Came). says_destroy (said x.message)) (sym is) ∙ on.stays;
           so = session_kept (unique_of c.message) P kept now taken still (subst T u own.1)
-              (subst (λ (x : Came). P (with_message s x).lines) (sym is) (first s lacks far sound
+              (subst (λ (x : Came). P (with_message s x).lines) (sym is) (first s same lacks far sound
               (subst (λ n. HaveNothing n s.lines) u own.0)
               (ap (λ (x : Came). (with_message s x).refused) (sym is) ∙ none_before now taken still on.far end e)));
         }
@@ -262,15 +281,19 @@ still_so settles s (d ∷ taken) c P lacks far sound own end e came kept first =
 -- a message ends no session, and lines have its orders
 abbrev HasOrders : Session → Came → Type 0
 HasOrders s c =
-    IsStill c (HasAll (unique_of c.message) (length (orders_in (incoming_by c.message (said c.message))))) s.lines
+    IsStill c (HasAll (unique_of c.message) (how_many s.rules.whole c.message)) s.lines
 
 each_had : AreKnown → Settles → (s : Session) (taken : List Came) (c : Came) → s.resends ≡ false
     → s.handshake ≡ under_way → IsSound s → HaveOwnUniques s.lines taken → (session_from s taken).handshake ≡ under_way
     → (session_from s taken).refused ≡ false → Contains taken c → HasOrders (session_from s taken) c
 each_had laws settles s taken c lacks far sound own end e came =
-    let count : ℕ = length (orders_in (incoming_by c.message (said c.message))) in
-    still_so settles s taken c (HasAll (unique_of c.message) count) lacks far sound own end e came
-    (all_kept (unique_of c.message) count) (λ t. message_has laws t c)
+    let u : ℕ = unique_of c.message in
+    let whole : Bool = (session_from s taken).rules.whole in
+    let count : ℕ = how_many whole c.message in
+    still_so settles whole s taken c (HasAll u count) (ap (λ (r : Rules). r.whole) (sym (rules_from s taken))) lacks far sound
+    own end e came (all_kept u count)
+    (λ t same lacks far sound none e. subst (λ w. HasAll u (how_many w c.message) (with_message t c).lines) same
+    (message_has laws t c lacks far sound none e))
 
 -- ---- a message comes again
 
@@ -280,10 +303,11 @@ under_long u (incoming.Batch orders) = length-map orders (order_under u)
 under_long u (incoming.Response response) = refl
 
 -- with its mark it has as many orders as without
-as_many : (message marked : List ℕ) → SaysTheSame message marked
-    → length (orders_in (incoming_by marked (said marked))) ≡ length (orders_in (incoming_by message (said message)))
-as_many message marked same =
-    sym (under_long (unique_of message) (incoming_by marked (said marked))) ∙ ap (λ it. length (orders_in it)) same.says
+as_many : (whole : Bool) (message marked : List ℕ) → SaysTheSame message marked
+    → how_many whole marked ≡ how_many whole message
+as_many whole message marked same =
+    sym (under_long (unique_of message) (incoming_by marked (said_to whole marked)))
+    ∙ ap (λ it. length (orders_in it)) (same.says whole)
 
 near_had : (s : Session) (u count : ℕ) → s.heard ≡ [] → IsNear s u → HasAll u count s.lines → is_had s u count ≡ true
 near_had s u count none (inl waits) e = ap (λ b. b || has_all (recalled_in s u) count) waits
@@ -297,12 +321,12 @@ comes_again s c marked none same orders near = record {
   unique = unique_of c.message;
   marked = same.mark;
   stays = same.ends ∙ orders.stays;
-  had = ap (is_had s (unique_of c.message)) (as_many c.message marked same)
-      ∙ near_had s (unique_of c.message) (length (orders_in (incoming_by c.message (said c.message)))) none near orders.so;
+  had = ap (is_had s (unique_of c.message)) (as_many s.rules.whole c.message marked same)
+      ∙ near_had s (unique_of c.message) (how_many s.rules.whole c.message) none near orders.so;
 }
 
 pub own_comes : (s : Session) (message marked : List ℕ) (response : Response) → SaysTheSame message marked
-    → incoming_by message (said message) ≡ incoming.Response response → says_destroy (said message) ≡ false
+    → incoming_by message (said_to s.rules.whole message) ≡ incoming.Response response → says_destroy (said message) ≡ false
     → ComesAgain s marked
 own_comes s message marked response same own stays =
     let u : ℕ = unique_of message in
@@ -311,7 +335,7 @@ own_comes s message marked response same own stays =
       unique = u;
       marked = same.mark;
       stays = same.ends ∙ stays;
-      had = ap (is_had s u) (as_many message marked same ∙ ap (λ it. length (orders_in it)) own)
+      had = ap (is_had s u) (as_many s.rules.whole message marked same ∙ ap (λ it. length (orders_in it)) own)
           ∙ ap (λ b. waits || b) (has_none (recalled_in s u)) ∙ or_true waits;
     }
 
@@ -463,7 +487,8 @@ client_as_one_inside laws settles rules early taken again unread marked batch sa
     had : (c : Came) → Contains taken c → HasOrders part c
     had c came =
         let u : ℕ = unique_of c.message in
-        let n : ℕ = length (orders_in (incoming_by c.message (said c.message))) in
+        let n : ℕ = how_many first.rules.whole c.message in
+        let still : part.rules ≡ first.rules = (by_orders first (take count (forgets_in batch.message)) []).rules in
         let before : HasOrders first c =
         subst (λ t. HasOrders t c) (sym joined) (taken_had laws settles rules early taken (batch ∷ unread) has c came) in
         let apart : AllApart u (take count (forgets_in batch.message)) =
@@ -471,5 +496,6 @@ client_as_one_inside laws settles rules early taken again unread marked batch sa
         (forgets_apart u batch.message _ (own_apart s.lines taken c batch unread own came)) in
         record {
           stays = before.stays;
-          so = orders_apart u (HasAll u n) (all_kept u n) first (take count (forgets_in batch.message)) [] apart before.so;
+          so = subst (λ (r : Rules). HasAll u (how_many r.whole c.message) part.lines) (sym still)
+              (orders_apart u (HasAll u n) (all_kept u n) first (take count (forgets_in batch.message)) [] apart before.so);
         }

@@ -30,14 +30,13 @@ use Rattle.fl_session.specs.CutOff.{AreOfPart, AreOfSession, AreTakenOf, cut_in,
 use Rattle.fl_session.specs.Once.{under_way}
 use Rattle.fl_session.specs.Session.{Came, Session, opening_session, recalled_in, session_from, session_of, with_again, with_either, with_incoming}
 use Rattle.fl_session.specs.Session.{with_message, with_order, with_orders, with_recalled}
-use Rattle.fl_transport.specs.Handshake.{advanced, incoming_by, incoming_of, own_answer}
+use Rattle.fl_transport.specs.Handshake.{advanced, incoming_by, incoming_of, own_answer, said_to}
 use Rattle.fl_transport.specs.declared.handshake.Incoming.{Incoming}
 use Rattle.fl_transport.specs.declared.handshake.Incoming.TheVariants as incoming
 use Rattle.fl_waiting.specs.Waiting.{is_parked}
 use Rattle.fl_waiting.specs.declared.rules.Rules.{Rules}
 use Rattle.fl_wire.specs.Batch.{forgets_in}
 use Rattle.fl_wire.specs.Layout.{opcode_of, unique_of}
-use Rattle.fl_wire.specs.Says.{said}
 
 -- what is known of legal histories
 pub record AreLegal : Type 0 where
@@ -192,7 +191,7 @@ message_grows : (s : Session) (c : Came) → IsPrefix s.lines (with_message s c)
 message_grows s c =
     grows_if s.handshake.over s.lines s _ (of_itself s.lines s.lines refl)
     (either_grows (record s { handshake = advanced s.handshake c.message }) (unmarked s.resends (unique_of c.message)) c.refused
-    (incoming_of s.handshake c.message))
+    (incoming_of s.rules.whole s.handshake c.message))
 
 session_grows : (s : Session) (came : List Came) → IsPrefix s.lines (session_from s came).lines
 session_grows s [] = of_itself s.lines s.lines refl
@@ -256,7 +255,7 @@ abbrev AreBefore : Session → List Came → List Line → Type 0
 AreBefore s left lines = AreOfSession s left lines ⊎ AreOfPart s left lines
 
 incoming_off : AreLegal → (s : Session) (c : Came) (later : List Came) (all lines after : List Line)
-    (it : Result Order Refusal) → said c.message ≡ it → IsSound s → IsLegal s.rules lines → s.handshake ≡ under_way
+    (it : Result Order Refusal) → said_to s.rules.whole c.message ≡ it → IsSound s → IsLegal s.rules lines → s.handshake ≡ under_way
     → all ≡ (with_incoming (record s { handshake = moved c.message }) c.refused (incoming_by c.message it)).lines ++ after
     → StandsBehind s.lines all lines
     → AreBefore s (c ∷ later) lines
@@ -309,11 +308,11 @@ plain_early : (s : Session) (c : Came) → s.resends ≡ false → s.handshake.o
 plain_early s c lacks live early =
     let now : Session = record s { handshake = advanced s.handshake c.message } in
     let unique : ℕ = unique_of c.message in
-    ap (λ over. (if over then s else with_either now (unmarked s.resends unique) c.refused (incoming_of s.handshake c.message)).lines)
+    ap (λ over. (if over then s else with_either now (unmarked s.resends unique) c.refused (incoming_of s.rules.whole s.handshake c.message)).lines)
     live
-    ∙ ap (λ knows. (with_either now (unmarked knows unique) c.refused (incoming_of s.handshake c.message)).lines) lacks
+    ∙ ap (λ knows. (with_either now (unmarked knows unique) c.refused (incoming_of s.rules.whole s.handshake c.message)).lines) lacks
     ∙ ap (λ agreed. (with_incoming now c.refused
-    (if agreed then incoming_by c.message (said c.message)
+    (if agreed then incoming_by c.message (said_to s.rules.whole c.message)
     else incoming.Response (own_answer c.message (kind_of_opcode (opcode_of c.message))))).lines) early
 
 message_off : AreLegal → (s : Session) (c : Came) (later : List Came) (all lines after : List Line) → s.resends ≡ false
@@ -333,7 +332,7 @@ message_off laws s c later all lines after lacks sound legal whole behind = by s
         let far : s.handshake ≡ under_way = λ i. record { agreed = a i; over = o i } in
         let is = plain_met s c lacks far in
         let P : Session → Type 0 = λ t. AreBefore s (c ∷ later) lines ⊎ StandsBehind t.lines all lines in
-        subst P (sym is) (incoming_off laws s c later all lines after (said c.message) refl sound legal far
+        subst P (sym is) (incoming_off laws s c later all lines after (said_to s.rules.whole c.message) refl sound legal far
         (whole ∙ ap (λ t. t.lines ++ after) is) behind)
 
 -- ---- messages one after another

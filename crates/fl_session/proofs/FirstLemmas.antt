@@ -72,8 +72,8 @@ message_known : (knows : Bool) (s : Session) (c : Came) → nat_le (2 ^ 63) (uni
 message_known knows s c plain =
     plain_is (knowing knows s) c plain
     ∙ known_if s.handshake.over knows s _
-    (with_incoming (record s { handshake = advanced s.handshake c.message }) c.refused (incoming_of s.handshake c.message))
-    (incoming_known knows (record s { handshake = advanced s.handshake c.message }) c.refused (incoming_of s.handshake c.message))
+    (with_incoming (record s { handshake = advanced s.handshake c.message }) c.refused (incoming_of s.rules.whole s.handshake c.message))
+    (incoming_known knows (record s { handshake = advanced s.handshake c.message }) c.refused (incoming_of s.rules.whole s.handshake c.message))
     ∙ ap (knowing knows) (sym (plain_is s c plain))
 
 session_known : (knows : Bool) (s : Session) (came : List Came) → AllPlain came
@@ -150,7 +150,7 @@ message_behind : (a : List (List ℕ)) (s : Session) (c : Came) → with_message
 message_behind a s c =
     let now : Session = record s { handshake = advanced s.handshake c.message } in
     let mark : Option ℕ = unmarked s.resends (unique_of c.message) in
-    let it : Incoming = incoming_of s.handshake c.message in
+    let it : Incoming = incoming_of s.rules.whole s.handshake c.message in
     behind_if s.handshake.over a s (with_either (behind a now) mark c.refused it) (with_either now mark c.refused it)
     (either_behind a now mark c.refused it)
 

@@ -1,7 +1,7 @@
 -- What a client gets that uses each unique for one message.
 use Rattle.std.proofs.Common.{◌≡◌, ℕ, zero, suc, ◌-◌, ◌≤◌, Bool, true, false, ◌||◌, ◌+◌, List, [], ◌∷◌, ◌++◌, length, drop, Some}
 use Rattle.std.proofs.Common.{refl, sym, ap, subst, ◌∙◌, arith, ⊎_elim}
-use Rattle.std.specs.Prelude.{All, Contains, flat_map, fold, if◌then◌else◌, nat_le, slice_index_or}
+use Rattle.std.specs.Prelude.{All, Contains, flat_map, fold, ◌&&◌, not, if◌then◌else◌, nat_le, slice_index_or, Result, Ok, Err}
 use Rattle.std.proofs.lemmas.Bool.{eq-eqb, le-leb, ne_eqb}
 use Rattle.std.proofs.lemmas.Grind.{fold-append}
 use Rattle.std.proofs.lemmas.List.{length-map}
@@ -12,7 +12,10 @@ use Rattle.fl_history.specs.declared.history.Line.{Line}
 use Rattle.fl_history.specs.declared.history.Line.TheVariants as line
 use Rattle.fl_history.specs.declared.recent.Recalled.{Recalled}
 use Rattle.fl_history.specs.declared.recent.Recalled.TheVariants as recall
+use Rattle.fl_order.specs.declared.errno.Errno.TheVariants.{ENOSYS}
 use Rattle.fl_order.specs.declared.order.Order.{Order}
+use Rattle.fl_order.specs.declared.refusal.Refusal.{Refusal}
+use Rattle.fl_order.specs.declared.refusal.Refusal.TheVariants.{Answer, Batch}
 use Rattle.fl_order.specs.declared.told.Told.{Told}
 use Rattle.fl_session.proofs.ParkedLemmas.{counted_free, later_counted, others_counted, replied_free}
 use Rattle.fl_session.proofs.RecallLemmas.{asks, asks_counted, behind_unsaid, few_spoken, recent_split, spoken_long, spoken_said}
@@ -22,7 +25,7 @@ use Rattle.fl_session.specs.Known.{HaveBatch, HaveNothing, HaveOrder, HaveReply,
 use Rattle.fl_session.specs.Once.{ComesAgain, IsUnknown, SaysTheSame, has_all, is_had, orders_in}
 use Rattle.fl_session.specs.Session.{Came, Session, recalled_in}
 use Rattle.fl_session.specs.Whole.{bytes_in}
-use Rattle.fl_transport.specs.Handshake.{incoming_by, says_destroy}
+use Rattle.fl_transport.specs.Handshake.{incoming_by, said_to, says_destroy}
 use Rattle.fl_transport.specs.declared.handshake.Incoming.{Incoming}
 use Rattle.fl_transport.specs.declared.handshake.Incoming.TheVariants as incoming
 use Rattle.fl_transport.specs.declared.response.Response.{Response}
@@ -30,6 +33,7 @@ use Rattle.fl_waiting.specs.Waiting.{is_parked}
 use Rattle.fl_wire.specs.Batch.{forgets_in}
 use Rattle.fl_wire.specs.Layout.{unique_of}
 use Rattle.fl_wire.specs.Says.{said}
+use Rattle.fl_wire.specs.Whole.{is_for_whole}
 use Rattle.fl_wire.specs.Spell.{spelling_of}
 
 -- ---- each reply
@@ -142,23 +146,32 @@ pub or_true : (a : Bool) → (a || true) ≡ true
 or_true true = refl
 or_true false = refl
 
-comes_by : (s : Session) (unique : ℕ) (message : List ℕ) → IsOrderAgain unique message → is_had s unique 1 ≡ true
+-- what is no error to a session that is whole or isn't is what the message says
+said_of : (whole : Bool) (message : List ℕ) (it : Result Order Refusal) → said_to whole message ≡ it
+    → (Err (Answer ENOSYS) ≡ it → ⊥) → said message ≡ it
+said_of whole message it e known = by (not whole && is_for_whole message) e
+  where
+    by : (unknown : Bool) → (if unknown then Err (Answer ENOSYS) else said message) ≡ it → said message ≡ it
+    by true e = absurd (known e)
+    by false e = e
+
+comes_by : (s : Session) (unique : ℕ) (message : List ℕ) → IsOrderAgain s.rules.whole unique message → is_had s unique 1 ≡ true
     → ComesAgain s message
 comes_by s unique message order had = record {
   unique = unique;
   marked = order.marked;
-  stays = ap says_destroy order.says;
+  stays = ap says_destroy (said_of s.rules.whole message (Ok order.order) order.says (λ e. cc e));
   had = ap (λ says. is_had s unique (length (orders_in (incoming_by message says)))) order.says ∙ had;
 }
 
-pub replied_comes : (s : Session) (told : Told) (message : List ℕ) → HaveReply (s.heard ++ s.lines) told → IsOrderAgain told.unique message
+pub replied_comes : (s : Session) (told : Told) (message : List ℕ) → HaveReply (s.heard ++ s.lines) told → IsOrderAgain s.rules.whole told.unique message
     → ComesAgain s message
 replied_comes s told message h order =
     let waits : Bool = is_parked told.unique (state_after s.rules s.lines).view.parked in
     comes_by s told.unique message order
     (ap (λ r. waits || has_all r 1) (reply_recalled (s.heard ++ s.lines) told h) ∙ or_true waits)
 
-pub asked_comes : (s : Session) (unique : ℕ) (message : List ℕ) → HaveOrder (s.heard ++ s.lines) unique → IsOrderAgain unique message
+pub asked_comes : (s : Session) (unique : ℕ) (message : List ℕ) → HaveOrder (s.heard ++ s.lines) unique → IsOrderAgain s.rules.whole unique message
     → ComesAgain s message
 asked_comes s unique message h order =
     let waits : Bool = is_parked unique (state_after s.rules s.lines).view.parked in
@@ -166,12 +179,12 @@ asked_comes s unique message h order =
     (ap (λ r. waits || has_all r 1) (order_recalled (s.heard ++ s.lines) unique h) ∙ or_true waits)
 
 pub parked_comes : (s : Session) (unique : ℕ) (message : List ℕ)
-    → is_parked unique (state_after s.rules s.lines).view.parked ≡ true → IsOrderAgain unique message → ComesAgain s message
+    → is_parked unique (state_after s.rules s.lines).view.parked ≡ true → IsOrderAgain s.rules.whole unique message → ComesAgain s message
 parked_comes s unique message waits order =
     comes_by s unique message order (ap (λ b. b || has_all (recalled_in s unique) 1) waits)
 
 pub batch_comes : (s : Session) (unique : ℕ) (orders : List Order) (message : List ℕ) → HaveBatch (s.heard ++ s.lines) unique orders
-    → IsBatchAgain unique (length orders) message → ComesAgain s message
+    → IsBatchAgain s.rules.whole unique (length orders) message → ComesAgain s message
 batch_comes s unique orders message h batch =
     let waits : Bool = is_parked unique (state_after s.rules s.lines).view.parked in
     let counted = batch.counted in
@@ -180,7 +193,7 @@ batch_comes s unique orders message h batch =
     record {
       unique = unique;
       marked = batch.marked;
-      stays = ap says_destroy batch.says;
+      stays = ap says_destroy (said_of s.rules.whole message (Err Batch) batch.says (λ e. cc e));
       had = ap (λ says. is_had s unique (length (orders_in (incoming_by message says)))) batch.says
           ∙ ap (λ r. waits || has_all r (length (forgets_in message))) (batch_recalled (s.heard ++ s.lines) unique orders h)
           ∙ ap (λ b. waits || b) all ∙ or_true waits;
@@ -206,12 +219,12 @@ flat_contains f (y ∷ xs) x a in_xs in_f =
     (Contains-append_cases (y ∷ []) xs x in_xs)
 
 pub reply_comes_again : (s : Session) (again : List Came) (c : Came) (told : Told) → HaveReply (s.heard ++ s.lines) told
-    → Contains again c → IsOrderAgain told.unique c.message → Contains (replies_again s again) (spelling_of told)
+    → Contains again c → IsOrderAgain s.rules.whole told.unique c.message → Contains (replies_again s again) (spelling_of told)
 reply_comes_again s again c told h came order =
     let u : ℕ = told.unique in
-    let f = λ (c : Came). reply_unmarked s (unmarked true (unique_of c.message)) (incoming_by c.message (said c.message)) in
+    let f = λ (c : Came). reply_unmarked s (unmarked true (unique_of c.message)) (incoming_by c.message (said_to s.rules.whole c.message)) in
     let one : f c ≡ spelling_of told ∷ [] =
-    ap (λ m. reply_unmarked s m (incoming_by c.message (said c.message))) order.marked
+    ap (λ m. reply_unmarked s m (incoming_by c.message (said_to s.rules.whole c.message))) order.marked
     ∙ ap (λ says. reply_unmarked s (Some u) (incoming_by c.message says)) order.says
     ∙ had_reply (is_parked u (state_after s.rules s.lines).view.parked) (recalled_in s u) told
     (replied_free s.rules s.heard s.lines told h) (reply_recalled (s.heard ++ s.lines) told h) in
@@ -226,11 +239,11 @@ under_own s unique (incoming.Response r) response e =
     let is : response_under unique r ≡ response = cc e in ap (bytes_in s.rules s.lines) is
 
 pub answer_comes_again : (s : Session) (again : List Came) (c m : Came) (response : Response) (reply : List ℕ)
-    → SaysTheSame c.message m.message → incoming_by c.message (said c.message) ≡ incoming.Response response
+    → SaysTheSame c.message m.message → incoming_by c.message (said_to s.rules.whole c.message) ≡ incoming.Response response
     → Contains (bytes_in s.rules s.lines response) reply → Contains again m → Contains (replies_again s again) reply
 answer_comes_again s again c m response reply same own in_it came =
-    let f = λ (c : Came). reply_unmarked s (unmarked true (unique_of c.message)) (incoming_by c.message (said c.message)) in
+    let f = λ (c : Came). reply_unmarked s (unmarked true (unique_of c.message)) (incoming_by c.message (said_to s.rules.whole c.message)) in
     let one : f m ≡ bytes_in s.rules s.lines response =
-    ap (λ mark. reply_unmarked s mark (incoming_by m.message (said m.message))) same.mark
-    ∙ under_own s (unique_of c.message) (incoming_by m.message (said m.message)) response (same.says ∙ own) in
+    ap (λ mark. reply_unmarked s mark (incoming_by m.message (said_to s.rules.whole m.message))) same.mark
+    ∙ under_own s (unique_of c.message) (incoming_by m.message (said_to s.rules.whole m.message)) response (same.says s.rules.whole ∙ own) in
     flat_contains f again m reply came (subst (λ l. Contains l reply) (sym one) in_it)

@@ -24,16 +24,16 @@ goes_if : (over : Bool) (a b : List (List ℕ)) (s t now after : Session) → Go
 goes_if true a b s t now after first second = first
 goes_if false a b s t now after first second = second
 
--- a session that is as far as this, with a message that isn't known as one that is sent again
-abbrev pub with_plain : Session → Handshake → Came → Session
-with_plain s h c =
+-- a session that is whole or isn't, and as far as this, with a message that isn't known as one that is sent again
+abbrev pub with_plain : Session → Bool → Handshake → Came → Session
+with_plain s whole h c =
     if h.over then s
-    else with_incoming (record s { handshake = advanced h c.message }) c.refused (incoming_of h c.message)
+    else with_incoming (record s { handshake = advanced h c.message }) c.refused (incoming_of whole h c.message)
 
 pub plain_is : (s : Session) (c : Came) → nat_le (2 ^ 63) (unique_of c.message) ≡ false
-    → with_message s c ≡ with_plain s s.handshake c
+    → with_message s c ≡ with_plain s s.rules.whole s.handshake c
 plain_is s c plain = ap (λ marked. if s.handshake.over then s
-    else with_either (record s { handshake = advanced s.handshake c.message }) marked c.refused (incoming_of s.handshake c.message))
+    else with_either (record s { handshake = advanced s.handshake c.message }) marked c.refused (incoming_of s.rules.whole s.handshake c.message))
     (none s.resends)
   where
     none : (resends : Bool) → unmarked resends (unique_of c.message) ≡ None
@@ -44,11 +44,12 @@ plain_goes : (a b : List (List ℕ)) (s t : Session) (c : Came) → nat_le (2 ^ 
     → GoAlike a b s t → GoAlike a b (with_message s c) (with_message t c)
 plain_goes a b s t c plain g =
     let h : Handshake = t.handshake in
-    goes_by a b (with_message s c) (with_message t c) (with_plain s h c) (with_plain t h c)
-    (plain_is s c plain ∙ ap (λ h. with_plain s h c) g.alike.handshake) (plain_is t c plain)
+    goes_by a b (with_message s c) (with_message t c) (with_plain s t.rules.whole h c)
+    (with_plain t t.rules.whole h c)
+    (plain_is s c plain ∙ (λ i. with_plain s (g.alike.rules i).whole (g.alike.handshake i) c)) (plain_is t c plain)
     (goes_if h.over a b s t _ _ g
     (incoming_goes a b (record s { handshake = advanced h c.message }) (record t { handshake = advanced h c.message }) c.refused
-    (incoming_of h c.message) (moved_alike a b s t (advanced h c.message) g)))
+    (incoming_of t.rules.whole h c.message) (moved_alike a b s t (advanced h c.message) g)))
 
 later_goes : (a b : List (List ℕ)) (s t : Session) (later : List Came) → AllPlain later → GoAlike a b s t
     → GoAlike a b (session_from s later) (session_from t later)

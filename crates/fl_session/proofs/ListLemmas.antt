@@ -64,8 +64,8 @@ first_passes p (x ∷ xs) y ys e = go (p x) refl (first_passes p xs y ys) e
     go true is rest e = let same : x ≡ y = cc e in ap p (sym same) ∙ is
     go false is rest e = rest e
 
--- behind the root's two entries stand the files from this number on
-behind_root : (d : Listing) (cookie : ℕ) → 2 ≤ cookie → entries_behind d cookie ≡ map file_entry (linked_from d cookie)
+-- behind the root's two entries stand those that are linked, from this number on
+behind_root : (d : Listing) (cookie : ℕ) → 2 ≤ cookie → entries_behind d 1 cookie ≡ map file_entry (linked_from d cookie)
 behind_root d cookie above =
     let no_dot : (cookie == 0) ≡ false = ne_eqb cookie 0 (λ e. absurd (omega (arith, above, e))) in
     let no_dots : (cookie == 1) ≡ false = ne_eqb cookie 1 (λ e. absurd (omega (arith, above, e))) in
@@ -74,7 +74,7 @@ behind_root d cookie above =
 -- the first of them, and what stands behind it
 pub first_file : (d : Listing) (cookie number : ℕ) (node : Node) → 2 ≤ cookie
     → linked_from d cookie ≡ (number, node) ∷ linked_from d (number + 1)
-    → entries_behind d cookie ≡ file_entry (number, node) ∷ entries_behind d (number + 1)
+    → entries_behind d 1 cookie ≡ file_entry (number, node) ∷ entries_behind d 1 (number + 1)
 first_file d cookie number node above are =
     let passes : (nat_le cookie number && node.linked) ≡ true =
     first_passes (λ e. nat_le cookie e.0 && e.1.linked) (entries d.nodes) (number, node) (linked_from d (number + 1)) are in
@@ -86,7 +86,7 @@ first_file d cookie number node above are =
     both_true true b e = refl
     both_true false b e = e
 
-pub no_file : (d : Listing) (cookie : ℕ) → 2 ≤ cookie → linked_from d cookie ≡ [] → entries_behind d cookie ≡ []
+pub no_file : (d : Listing) (cookie : ℕ) → 2 ≤ cookie → linked_from d cookie ≡ [] → entries_behind d 1 cookie ≡ []
 no_file d cookie above none = behind_root d cookie above ∙ ap (map file_entry) none
 
 -- a reply's header

@@ -1,13 +1,15 @@
 -- A message with a mark says what it says without it.
 use Rattle.std.proofs.Common.{◌≡◌, ℕ, ◌+◌, ◌*◌, ◌-◌, ◌≤◌, Bool, true, false, List, [], ◌∷◌, length, drop, map, Option, None, Some}
 use Rattle.std.proofs.Common.{refl, sym, ap, ◌∙◌, arith}
-use Rattle.std.specs.Prelude.{◌^◌, if◌then◌else◌, nat_le, Result, Ok, Err}
+use Rattle.std.specs.Prelude.{◌^◌, ◌&&◌, ◌==◌, not, if◌then◌else◌, nat_le, slice_index, Result, Ok, Err}
 use Rattle.std.proofs.Math.Seq.{drop-append-add}
 use Rattle.std.proofs.lemmas.Bool.{le-leb}
 use Rattle.fl_order.specs.OpKind.{kind_of_opcode, shape_for}
+use Rattle.fl_order.specs.declared.body.Body.TheVariants as body
 use Rattle.fl_order.specs.declared.body.Shape.{Shape}
 use Rattle.fl_order.specs.declared.body.Shape.TheVariants as shape
 use Rattle.fl_order.specs.declared.errno.Errno.{Errno}
+use Rattle.fl_order.specs.declared.errno.Errno.TheVariants.{ENOSYS}
 use Rattle.fl_order.specs.declared.kind.OpKind.{OpKind}
 use Rattle.fl_order.specs.declared.order.Op.{Op}
 use Rattle.fl_order.specs.declared.order.Op.TheVariants.{Forget}
@@ -19,9 +21,10 @@ use Rattle.fl_session.specs.Once.{SaysTheSame}
 use Rattle.fl_transport.specs.Handshake.{incoming_by, refused, says_destroy}
 use Rattle.fl_transport.specs.declared.handshake.Incoming.TheVariants as incoming
 use Rattle.fl_wire.specs.Batch.{forget_at, is_batch}
-use Rattle.fl_wire.specs.Layout.{number_at, opcode_of, unique_of}
+use Rattle.fl_wire.specs.Body.{by_fields_and_name}
+use Rattle.fl_wire.specs.Layout.{mkdir_in, mknod_in, number_at, opcode_of, unique_of}
 use Rattle.fl_wire.specs.Says.{asked, asked_by, asked_with, body_in, order_of, said}
-use Rattle.fl_wire.specs.Whole.{whole_ask}
+use Rattle.fl_wire.specs.Whole.{is_for_whole, whole_ask}
 use Rattle.fl_wire.specs.declared.whole.WholeAsk.{WholeAsk}
 
 -- the first bytes of a header, up to the last of its unique
@@ -93,10 +96,19 @@ forgets_same : (x : Front) (rest : List ℕ) (places : List ℕ)
 forgets_same x rest [] = refl
 forgets_same x rest (place ∷ places) = λ t. forget_same x rest place t ∷ forgets_same x rest places t
 
+-- the same of the body of a MKDIR or a MKNOD
+make_same : (x : Front) (rest : List ℕ) (short : Bool)
+    → by_fields_and_name (if short then mkdir_in else mknod_in) (λ values name. body.Make (slice_index values 0) name) (marked x rest)
+    ≡ by_fields_and_name (if short then mkdir_in else mknod_in) (λ values name. body.Make (slice_index values 0) name) (plain x rest)
+unfolding number_at
+make_same x rest true = refl
+make_same x rest false = refl
+
 body_same : (x : Front) (rest : List ℕ) (s : Shape) → body_in s (marked x rest) ≡ body_in s (plain x rest)
 unfolding number_at
 body_same x rest shape.Lock = refl
 body_same x rest shape.Create = refl
+body_same x rest shape.Make = make_same x rest (opcode_of (plain x rest) == 9)
 body_same x rest shape.Name = refl
 body_same x rest shape.Number = refl
 body_same x rest shape.Flush = refl
@@ -132,6 +144,10 @@ refused_same : (m n : List ℕ) (e : Errno) (asked : Option WholeAsk)
 refused_same m n e None = refl
 refused_same m n e (Some asked) = refl
 
+for_same : (x : Front) (rest : List ℕ) → is_for_whole (marked x rest) ≡ is_for_whole (plain x rest)
+unfolding number_at
+for_same x rest = refl
+
 -- ---- what it says
 
 abbrev op_in : Front → List ℕ → Result Op Refusal
@@ -158,6 +174,16 @@ says_by x rest false (Err Silent) = refl
 says_by x rest false (Err Batch) = ap incoming.Batch (forgets_same x rest _)
 says_by x rest false (Err Destroy) = refl
 
+-- what it says to a session to which the message is none that it knows, or says this
+says_to : (x : Front) (rest : List ℕ) (unknown : Bool)
+    → incoming_under (unique_of (plain x rest))
+    (incoming_by (marked x rest) (if unknown then Err (Answer ENOSYS) else said (marked x rest)))
+    ≡ incoming_by (plain x rest) (if unknown then Err (Answer ENOSYS) else said (plain x rest))
+says_to x rest true = says_by x rest false (Err (Answer ENOSYS))
+says_to x rest false =
+    ap (λ says. incoming_under (unique_of (plain x rest)) (incoming_by (marked x rest) says)) (said_as x rest)
+    ∙ says_by x rest (is_batch (plain x rest)) (op_in x rest)
+
 ends_by : (x : Front) (rest : List ℕ) (batch : Bool) (op : Result Op Refusal)
     → says_destroy (if batch then Err Batch else order_of (marked x rest) op)
     ≡ says_destroy (if batch then Err Batch else order_of (plain x rest) op)
@@ -168,8 +194,10 @@ ends_by x rest false (Err refusal) = refl
 front_same : (x : Front) (rest : List ℕ) → SaysTheSame (plain x rest) (marked x rest)
 front_same x rest = record {
   mark = mark_of (unique_of (marked x rest)) (unique_of (plain x rest)) (higher x rest);
-  says = ap (λ says. incoming_under (unique_of (plain x rest)) (incoming_by (marked x rest) says)) (said_as x rest)
-      ∙ says_by x rest (is_batch (plain x rest)) (op_in x rest);
+  says = λ whole.
+      ap (λ is. incoming_under (unique_of (plain x rest))
+      (incoming_by (marked x rest) (if not whole && is then Err (Answer ENOSYS) else said (marked x rest)))) (for_same x rest)
+      ∙ says_to x rest (not whole && is_for_whole (plain x rest));
   ends = ap says_destroy (said_as x rest) ∙ ends_by x rest (is_batch (plain x rest)) (op_in x rest);
 }
 

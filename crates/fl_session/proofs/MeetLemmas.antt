@@ -23,21 +23,21 @@ use Rattle.fl_wire.specs.Layout.{unique_of}
 
 -- a message of a session that isn't over, which is this to it and brings it there
 met_as : (s : Session) (handshake : Handshake) (it : Incoming) (message : List ℕ) (marked : Option ℕ) (refused : List Bool)
-    → s.handshake.over ≡ false → incoming_of s.handshake message ≡ it → handshake ≡ advanced s.handshake message
+    → s.handshake.over ≡ false → incoming_of s.rules.whole s.handshake message ≡ it → handshake ≡ advanced s.handshake message
     → unmarked s.resends (unique_of message) ≡ marked
     → with_message s (record { message = message; refused = refused })
     ≡ with_either (record s { handshake = handshake }) marked refused it
 met_as s handshake it message marked refused live is there mark =
     let now : Session = record s { handshake = advanced s.handshake message } in
     ap (λ over. if over then s
-    else with_either now (unmarked s.resends (unique_of message)) refused (incoming_of s.handshake message)) live
-    ∙ ap (λ m. with_either now m refused (incoming_of s.handshake message)) mark
+    else with_either now (unmarked s.resends (unique_of message)) refused (incoming_of s.rules.whole s.handshake message)) live
+    ∙ ap (λ m. with_either now m refused (incoming_of s.rules.whole s.handshake message)) mark
     ∙ ap (with_either now marked refused) is
     ∙ ap (λ h. with_either (record s { handshake = h }) marked refused it) (sym there)
 
 -- an order is taken
 pub met_order : {K : Type 0} (old new : Server K) (handshake : Handshake) (order : Order) (replies : List (List ℕ))
-    (message : List ℕ) → old.handshake.over ≡ false → incoming_of old.handshake message ≡ incoming.Order order
+    (message : List ℕ) → old.handshake.over ≡ false → incoming_of old.desk.present.rules.whole old.handshake message ≡ incoming.Order order
     → handshake ≡ advanced old.handshake message → unmarked (is_some old.recent) (unique_of message) ≡ None
     → IsTaken (record old { handshake = handshake }) new replies order → IsMet old new replies message
 met_order old new handshake order replies message live is there mark taken = record {
@@ -48,7 +48,7 @@ met_order old new handshake order replies message live is there mark taken = rec
 
 -- a batch is taken
 pub met_batch : {K : Type 0} (old new : Server K) (handshake : Handshake) (orders : List Order) (replies : List (List ℕ))
-    (message : List ℕ) → old.handshake.over ≡ false → incoming_of old.handshake message ≡ incoming.Batch orders
+    (message : List ℕ) → old.handshake.over ≡ false → incoming_of old.desk.present.rules.whole old.handshake message ≡ incoming.Batch orders
     → handshake ≡ advanced old.handshake message → unmarked (is_some old.recent) (unique_of message) ≡ None
     → AreTaken (record old { handshake = handshake }) new replies orders [] → IsMet old new replies message
 met_batch old new handshake orders replies message live is there mark taken =
@@ -62,7 +62,7 @@ met_batch old new handshake orders replies message live is there mark taken =
 -- a message whose orders under this unique are these is sent again
 pub met_again : {K : Type 0} (old new : Server K) (handshake : Handshake) (it : Incoming) (unique : ℕ)
     (orders : List Order) (replies : List (List ℕ)) (message : List ℕ) → old.handshake.over ≡ false
-    → incoming_of old.handshake message ≡ it → handshake ≡ advanced old.handshake message
+    → incoming_of old.desk.present.rules.whole old.handshake message ≡ it → handshake ≡ advanced old.handshake message
     → unmarked (is_some old.recent) (unique_of message) ≡ Some unique
     → ((s : Session) (refused : List Bool)
     → with_again s unique refused (incoming_under unique it) ≡ with_orders_again s unique orders refused)
@@ -77,7 +77,7 @@ met_again old new handshake it unique orders replies message live is there mark 
 -- the session itself answers a message, whether it is new or sent again
 pub met_by_itself : {K : Type 0} (old : Server K) (desk : Book) (handshake : Handshake) (it : Incoming)
     (marked : Option ℕ) (response : Response) (message : List ℕ) → old.handshake.over ≡ false
-    → incoming_of old.handshake message ≡ it → handshake ≡ advanced old.handshake message
+    → incoming_of old.desk.present.rules.whole old.handshake message ≡ it → handshake ≡ advanced old.handshake message
     → unmarked (is_some old.recent) (unique_of message) ≡ marked
     → ((s : Session) → with_either s marked [] it ≡ with_response s response)
     → desk.lines ≡ old.desk.lines → desk.present ≡ old.desk.present

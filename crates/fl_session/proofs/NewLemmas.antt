@@ -1,7 +1,7 @@
 -- Messages that have uniques of their own are new, one after another.
 use Rattle.std.proofs.Common.{◌≡◌, ℕ, Bool, true, false, List, [], ◌∷◌, ◌++◌, map, Option, None, Some}
 use Rattle.std.proofs.Common.{sym, ap, subst, ◌∙◌, append_assoc, arith}
-use Rattle.std.specs.Prelude.{cond, if◌then◌else◌, ◌==◌, ◌≢◌, Result, Ok, Err}
+use Rattle.std.specs.Prelude.{cond, ◌&&◌, not, if◌then◌else◌, ◌==◌, ◌≢◌, Result, Ok, Err}
 use Rattle.std.specs.List.{AllByRecursion, filter}
 use Rattle.std.proofs.lemmas.Bool.{eq-eqb, ne_eqb}
 use Rattle.fl_core.specs.Replies.{ended, ended_all, ended_if, ended_with, ending_of, error_of, first_told, own_reply, picks}
@@ -15,6 +15,7 @@ use Rattle.fl_history.specs.declared.history.Line.{Line}
 use Rattle.fl_history.specs.declared.history.Line.TheVariants as line
 use Rattle.fl_order.specs.OpKind.{kind_of_opcode}
 use Rattle.fl_order.specs.declared.errno.Errno.{Errno}
+use Rattle.fl_order.specs.declared.errno.Errno.TheVariants.{ENOSYS}
 use Rattle.fl_order.specs.declared.order.Op.{Op}
 use Rattle.fl_order.specs.declared.order.Order.{Order}
 use Rattle.fl_order.specs.declared.refusal.Refusal.{Refusal}
@@ -28,7 +29,7 @@ use Rattle.fl_session.specs.Again.{unmarked}
 use Rattle.fl_session.specs.Known.{AreMarked, HaveNothing, HaveOwnUniques}
 use Rattle.fl_session.specs.Once.{AreNew, orders_in}
 use Rattle.fl_session.specs.Session.{Came, Session, with_either, with_incoming, with_message, with_order, with_orders}
-use Rattle.fl_transport.specs.Handshake.{advanced, incoming_by, incoming_of, own_answer}
+use Rattle.fl_transport.specs.Handshake.{advanced, incoming_by, incoming_of, own_answer, said_to}
 use Rattle.fl_transport.specs.declared.handshake.Incoming.{Incoming}
 use Rattle.fl_transport.specs.declared.handshake.Incoming.TheVariants as incoming
 use Rattle.fl_waiting.specs.Waiting.{is_parked}
@@ -37,6 +38,7 @@ use Rattle.fl_waiting.specs.declared.rules.Rules.{Rules}
 use Rattle.fl_wire.specs.Batch.{forget_at, is_batch}
 use Rattle.fl_wire.specs.Layout.{opcode_of, unique_of}
 use Rattle.fl_wire.specs.Says.{asked, order_of, said}
+use Rattle.fl_wire.specs.Whole.{is_for_whole}
 
 -- ---- replies are to the order and to parked requests
 
@@ -166,6 +168,12 @@ said_apart : (batch : Bool) (u : ℕ) (message : List ℕ) (op : Result Op Refus
 said_apart true u message op other = forgets_apart u message _ other
 said_apart false u message op other = order_of_apart u message op other
 
+to_apart : (unknown : Bool) (u : ℕ) (message : List ℕ) (says : Result Order Refusal)
+    → AllApart u (orders_in (incoming_by message says))
+    → AllApart u (orders_in (incoming_by message (if unknown then Err (Answer ENOSYS) else says)))
+to_apart true u message says others = tt
+to_apart false u message says others = others
+
 of_apart : (agreed : Bool) (u : ℕ) (it : Incoming) (message : List ℕ) → AllApart u (orders_in it)
     → AllApart u (orders_in (if agreed then it else incoming.Response (own_answer message (kind_of_opcode (opcode_of message)))))
 of_apart true u it message others = others
@@ -177,15 +185,16 @@ message_apart u P kept s c lacks other so =
     so_if s.handshake.over s there so
     (subst (λ b. P (with_either now (unmarked b (unique_of c.message)) c.refused it).lines) (sym lacks)
     (incoming_apart u P kept now c.refused it
-    (of_apart s.handshake.agreed u (incoming_by c.message (said c.message)) c.message
-    (said_apart (is_batch c.message) u c.message (asked (kind_of_opcode (opcode_of c.message)) c.message) other))
+    (of_apart s.handshake.agreed u (incoming_by c.message (said_to s.rules.whole c.message)) c.message
+    (to_apart (not s.rules.whole && is_for_whole c.message) u c.message (said c.message)
+    (said_apart (is_batch c.message) u c.message (asked (kind_of_opcode (opcode_of c.message)) c.message) other)))
     so))
   where
     now : Session
     now = record s { handshake = advanced s.handshake c.message }
 
     it : Incoming
-    it = incoming_of s.handshake c.message
+    it = incoming_of s.rules.whole s.handshake c.message
 
     there : Session
     there = with_either now (unmarked s.resends (unique_of c.message)) c.refused it

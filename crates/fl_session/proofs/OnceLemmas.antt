@@ -19,7 +19,7 @@ use Rattle.fl_session.specs.Once.{AllComeAgain, AreNew, ComesAgain, IsUnknown, S
 use Rattle.fl_session.specs.Session.{Came, Session, opening_session, recalled_in, session_from, session_of, with_again, with_either, with_incoming}
 use Rattle.fl_session.specs.Session.{with_message, with_order, with_orders, with_orders_again, with_recalled, with_response}
 use Rattle.fl_session.specs.Whole.{bytes_in}
-use Rattle.fl_transport.specs.Handshake.{advanced, incoming_by, incoming_of, says_destroy}
+use Rattle.fl_transport.specs.Handshake.{advanced, incoming_by, incoming_of, said_to, says_destroy}
 use Rattle.fl_transport.specs.Response.{bytes_of, lost}
 use Rattle.fl_transport.specs.declared.handshake.Handshake.{Handshake}
 use Rattle.fl_transport.specs.declared.handshake.Incoming.{Incoming}
@@ -155,12 +155,12 @@ moved message = record { agreed = true; over = says_destroy (said message) }
 
 met : (s : Session) (c : Came) (marked : Option ℕ) → s.handshake ≡ under_way → unmarked s.resends (unique_of c.message) ≡ marked
     → with_message s c
-    ≡ with_either (record s { handshake = moved c.message }) marked c.refused (incoming_by c.message (said c.message))
+    ≡ with_either (record s { handshake = moved c.message }) marked c.refused (incoming_by c.message (said_to s.rules.whole c.message))
 met s c marked far mark =
     ap (λ h. if h.over then s
     else with_either (record s { handshake = advanced h c.message }) (unmarked s.resends (unique_of c.message)) c.refused
-    (incoming_of h c.message)) far
-    ∙ ap (λ m. with_either (record s { handshake = moved c.message }) m c.refused (incoming_by c.message (said c.message))) mark
+    (incoming_of s.rules.whole h c.message)) far
+    ∙ ap (λ m. with_either (record s { handshake = moved c.message }) m c.refused (incoming_by c.message (said_to s.rules.whole c.message))) mark
 
 one_again : (s : Session) (c : Came) → s.resends ≡ true → s.handshake ≡ under_way → ComesAgain s c.message
     → AreAlike (with_message s c) s
@@ -175,18 +175,18 @@ one_again s c knows far again =
       lines = refl;
     } in
     alike_by (with_message s c) s _ s (met s c (Some again.unique) far mark) refl
-    (alike_trans _ now s (again_had now again.unique c.refused (incoming_by c.message (said c.message)) again.had) same)
+    (alike_trans _ now s (again_had now again.unique c.refused (incoming_by c.message (said_to s.rules.whole c.message)) again.had) same)
 
 -- what is sent to one message
 abbrev reply_to : Session → Came → List (List ℕ)
-reply_to s c = reply_unmarked s (unmarked true (unique_of c.message)) (incoming_by c.message (said c.message))
+reply_to s c = reply_unmarked s (unmarked true (unique_of c.message)) (incoming_by c.message (said_to s.rules.whole c.message))
 
 one_sent : (s : Session) (c : Came) → s.resends ≡ true → s.handshake ≡ under_way → ComesAgain s c.message
     → (with_message s c).replies ≡ s.replies ++ reply_to s c
 one_sent s c knows far again =
     let mark : unmarked s.resends (unique_of c.message) ≡ Some again.unique =
     ap (λ b. unmarked b (unique_of c.message)) knows ∙ again.marked in
-    let it : Incoming = incoming_by c.message (said c.message) in
+    let it : Incoming = incoming_by c.message (said_to s.rules.whole c.message) in
     ap (λ t. t.replies) (met s c (Some again.unique) far mark)
     ∙ again_sent (record s { handshake = moved c.message }) again.unique c.refused it again.had
     ∙ ap (λ m. s.replies ++ reply_unmarked s m it) (sym again.marked)
@@ -194,9 +194,12 @@ one_sent s c knows far again =
 sent_alike : (s t : Session) (came : List Came) → AreAlike t s → replies_again t came ≡ replies_again s came
 sent_alike s t came a = λ i. replies_again (record s { rules = a.rules i; heard = a.heard i; lines = a.lines i }) came
 
-still_had : (s t : Session) (unique count : ℕ) → AreAlike t s → is_had s unique count ≡ true → is_had t unique count ≡ true
-still_had s t unique count a e =
-    (λ i. is_had (record s { rules = a.rules i; heard = a.heard i; lines = a.lines i }) unique count) ∙ e
+still_had : (s t : Session) (unique : ℕ) (message : List ℕ) → AreAlike t s
+    → is_had s unique (length (orders_in (incoming_by message (said_to s.rules.whole message)))) ≡ true
+    → is_had t unique (length (orders_in (incoming_by message (said_to t.rules.whole message)))) ≡ true
+still_had s t unique message a e =
+    (λ i. is_had (record s { rules = a.rules i; heard = a.heard i; lines = a.lines i }) unique
+    (length (orders_in (incoming_by message (said_to (a.rules i).whole message))))) ∙ e
 
 still_again : (s t : Session) (came : List Came) → AreAlike t s → AllComeAgain s came → AllComeAgain t came
 still_again s t [] a all = tt
@@ -205,7 +208,7 @@ still_again s t (c ∷ came) a all = (
     unique = all.0.unique;
     marked = all.0.marked;
     stays = all.0.stays;
-    had = still_had s t all.0.unique _ a all.0.had;
+    had = still_had s t all.0.unique c.message a all.0.had;
   },
   still_again s t came a all.1,
 )
@@ -279,16 +282,16 @@ moved_alike a b s t handshake g = record {
 -- the message with its mark is taken as that without it
 pub marked_met : (s : Session) (c m : Came) → s.resends ≡ true → s.handshake ≡ under_way → SaysTheSame c.message m.message
     → with_message s m
-    ≡ with_again (record s { handshake = moved c.message }) (unique_of c.message) m.refused (incoming_by c.message (said c.message))
+    ≡ with_again (record s { handshake = moved c.message }) (unique_of c.message) m.refused (incoming_by c.message (said_to s.rules.whole c.message))
 marked_met s c m knows far same =
     met s m (Some (unique_of c.message)) far (ap (λ b. unmarked b (unique_of m.message)) knows ∙ same.mark)
     ∙ (λ i. with_again (record s { handshake = record { agreed = true; over = same.ends i } }) (unique_of c.message) m.refused
-    (same.says i))
+    (same.says s.rules.whole i))
 
 -- a message is new where no message is known as one that is sent again
 pub plain_met : (s : Session) (c : Came) → s.resends ≡ false → s.handshake ≡ under_way
     → with_message s c
-    ≡ with_incoming (record s { handshake = moved c.message }) c.refused (incoming_by c.message (said c.message))
+    ≡ with_incoming (record s { handshake = moved c.message }) c.refused (incoming_by c.message (said_to s.rules.whole c.message))
 plain_met s c lacks far = met s c None far (ap (λ b. unmarked b (unique_of c.message)) lacks)
 
 one_new : (a b : List (List ℕ)) (s t : Session) (c m : Came) → s.resends ≡ true → t.resends ≡ false → t.handshake ≡ under_way
@@ -296,11 +299,13 @@ one_new : (a b : List (List ℕ)) (s t : Session) (c m : Came) → s.resends ≡
     → GoAlike a b (with_message s m) (with_message t c)
 one_new a b s t c m knows lacks far g same flags unknown =
     let unique : ℕ = unique_of c.message in
-    let it : Incoming = incoming_by c.message (said c.message) in
+    let it : Incoming = incoming_by c.message (said_to t.rules.whole c.message) in
     let left : Session = record s { handshake = moved c.message } in
     let right : Session = record t { handshake = moved c.message } in
     goes_by a b (with_message s m) (with_message t c) (with_again left unique c.refused it) (with_incoming right c.refused it)
-    (marked_met s c m knows (g.alike.handshake ∙ far) same ∙ ap (λ r. with_again left unique r it) flags)
+    (marked_met s c m knows (g.alike.handshake ∙ far) same
+    ∙ ap (λ (r : Rules). with_again left unique m.refused (incoming_by c.message (said_to r.whole c.message))) g.alike.rules
+    ∙ ap (λ r. with_again left unique r it) flags)
     (plain_met t c lacks far)
     (new_incoming a b left right unique c.refused it (moved_alike a b s t (moved c.message) g)
     (record { free = unknown.free; unsaid = unknown.unsaid }))
@@ -319,7 +324,7 @@ pub over_still : (s : Session) (c : Came) → s.handshake.over ≡ true → with
 over_still s c over =
     ap (λ o. if o then s
     else with_either (record s { handshake = advanced s.handshake c.message }) (unmarked s.resends (unique_of c.message)) c.refused
-    (incoming_of s.handshake c.message)) over
+    (incoming_of s.rules.whole s.handshake c.message)) over
 
 one_new_by : (a b : List (List ℕ)) (s t : Session) (c m : Came) (over : Bool) → t.handshake.over ≡ over
     → t.handshake.agreed ≡ true → s.resends ≡ true → t.resends ≡ false → GoAlike a b s t → SaysTheSame c.message m.message

@@ -1,5 +1,5 @@
 -- The reply to an order that a session took is sent again.
-use Rattle.std.proofs.Common.{◌≡◌, ℕ, ◌≤◌, true, false, List, [], ◌∷◌, ◌++◌, map, Some}
+use Rattle.std.proofs.Common.{◌≡◌, ℕ, ◌≤◌, Bool, true, false, List, [], ◌∷◌, ◌++◌, map, Some}
 use Rattle.std.proofs.Common.{refl, sym, ap, subst, ◌∙◌, append_assoc, arith, inl, inr, ⊎_elim}
 use Rattle.std.specs.Prelude.{Contains, fold, ◌==◌, ◌≢◌, ◌⊎◌, Ok}
 use Rattle.std.proofs.lemmas.Bool.{eq-eqb, ne_eqb}
@@ -15,16 +15,15 @@ use Rattle.fl_history.specs.Recent.{recalled, with_line}
 use Rattle.fl_history.specs.declared.history.Line.{Line}
 use Rattle.fl_history.specs.declared.history.Line.TheVariants as line
 use Rattle.fl_history.specs.declared.recent.Recalled.TheVariants as recall
-use Rattle.fl_order.specs.OpKind.{kind_of_opcode}
 use Rattle.fl_order.specs.declared.order.Order.{Order}
 use Rattle.fl_order.specs.declared.told.Told.{Told}
 use Rattle.fl_session.proofs.BatchLemmas.{session_sound}
-use Rattle.fl_session.proofs.ClientLemmas.{AreOf, IsSoOf, IsStill, none_heard, none_refused, own_alone, own_front, said_is, still_so}
+use Rattle.fl_session.proofs.ClientLemmas.{AreOf, IsSoOf, IsStill, none_heard, none_refused, orders_are, own_alone, own_front, still_so}
 use Rattle.fl_session.proofs.KnownLemmas.{flat_contains, had_reply, head_is, others_said, told_said}
 use Rattle.fl_session.proofs.NewLemmas.{IsKept, Settles, both_nothing, replies_others, tolds_nothing}
 use Rattle.fl_session.proofs.OneReplyLemmas.{HasReplyTo, step_once, told_once}
 use Rattle.fl_session.proofs.OnceLemmas.{moved, plain_met, resends_from}
-use Rattle.fl_session.proofs.RulesLemmas.{heard_from}
+use Rattle.fl_session.proofs.RulesLemmas.{heard_from, rules_from}
 use Rattle.fl_session.proofs.ParkedLemmas.{asked_one, bit, counted, counted_free, counted_most, counted_none, many, others_counted, told_one}
 use Rattle.fl_session.specs.Again.{incoming_under, unmarked}
 use Rattle.fl_session.specs.AsOne.{replies_again, reply_again, reply_had, reply_unmarked}
@@ -33,14 +32,12 @@ use Rattle.fl_session.specs.Known.{HaveNothing, IsOf}
 use Rattle.fl_session.specs.Once.{SaysTheSame}
 use Rattle.fl_session.specs.Session.{Came, Session, opening_session, recalled_in, session_from, session_of, with_incoming}
 use Rattle.fl_session.specs.Session.{with_message, with_order, with_orders}
-use Rattle.fl_transport.specs.Handshake.{incoming_by}
+use Rattle.fl_transport.specs.Handshake.{incoming_by, said_to}
 use Rattle.fl_transport.specs.declared.handshake.Incoming.{Incoming}
 use Rattle.fl_transport.specs.declared.handshake.Incoming.TheVariants as incoming
 use Rattle.fl_waiting.specs.Waiting.{is_parked}
 use Rattle.fl_waiting.specs.declared.rules.Rules.{Rules}
-use Rattle.fl_wire.specs.Batch.{is_batch}
-use Rattle.fl_wire.specs.Layout.{opcode_of, unique_of}
-use Rattle.fl_wire.specs.Says.{asked, said}
+use Rattle.fl_wire.specs.Layout.{unique_of}
 use Rattle.fl_wire.specs.Spell.{spelling_of}
 
 abbrev told_lines : List Told → List Line
@@ -219,15 +216,16 @@ order_one settles u s order named none =
     first_on u s.lines order (replies p order) named none
     (told_once u (replies p order) (step_once settles u p order (omega (arith, free, one))))
 
-message_one : Settles → (c : Came) (order : Order) → said c.message ≡ Ok order → IsSoOf c (HasOne (unique_of c.message))
-message_one settles c order says t lacks far sound none e =
+message_one : Settles → (whole : Bool) (c : Came) (order : Order) → said_to whole c.message ≡ Ok order
+    → IsSoOf whole c (HasOne (unique_of c.message))
+message_one settles whole c order says t same lacks far sound none e =
     let u : ℕ = unique_of c.message in
     let now : Session = record t { handshake = moved c.message } in
     let is : with_message t c ≡ with_orders now (order ∷ []) c.refused =
-    plain_met t c lacks far ∙ ap (λ it. with_incoming now c.refused (incoming_by c.message it)) says in
+    plain_met t c lacks far ∙ ap (λ it. with_incoming now c.refused (incoming_by c.message it))
+    (ap (λ w. said_to w c.message) same ∙ says) in
     let named : order.unique ≡ u =
-    subst (λ it. AreOf u (incoming_by c.message it)) says
-    (said_is (is_batch c.message) c.message (asked (kind_of_opcode (opcode_of c.message)) c.message)) in
+    subst (λ it. AreOf u (incoming_by c.message it)) says (orders_are whole c.message) in
     subst (λ (x : Session). HasOne u x.lines)
     (sym (is ∙ none_refused now (order ∷ []) c.refused (ap (λ (x : Session). x.refused) (sym is) ∙ e)))
     (order_one settles u now order named none)
@@ -303,7 +301,7 @@ same_unique a b m first second =
 
 pub told_again : Settles → (rules : Rules) (early taken again unread : List Came) (c m : Came) (order : Order) (told : Told)
     → HasTaken (session_of rules early) taken unread → AreOnesAgain (session_of rules (early ++ taken)) taken again
-    → Contains taken c → said c.message ≡ Ok order → told.unique ≡ unique_of c.message
+    → Contains taken c → said_to rules.whole c.message ≡ Ok order → told.unique ≡ unique_of c.message
     → Contains (session_of rules (early ++ taken)).lines (line.Told told) → Contains again m
     → SaysTheSame c.message m.message
     → Contains (replies_again (session_of rules (early ++ taken)) again) (spelling_of told)
@@ -321,14 +319,18 @@ told_again settles rules early taken again unread c m order told has ones in_tak
     joined : session_of rules (early ++ taken) ≡ first
     joined = fold-append with_message (opening_session rules) early taken
 
+    began : first.rules ≡ rules
+    began = rules_from s taken ∙ rules_from (opening_session rules) early
+
     f : Came → List (List ℕ)
-    f x = reply_unmarked first (unmarked true (unique_of x.message)) (incoming_by x.message (said x.message))
+    f x = reply_unmarked first (unmarked true (unique_of x.message)) (incoming_by x.message (said_to first.rules.whole x.message))
 
     is : IsStill c (HasOne (unique_of c.message)) first.lines
-    is = still_so settles s taken c (HasOne (unique_of c.message)) (resends_from (opening_session rules) early) has.began
+    is = still_so settles rules.whole s taken c (HasOne (unique_of c.message))
+        (ap (λ (r : Rules). r.whole) (rules_from (opening_session rules) early)) (resends_from (opening_session rules) early) has.began
         (session_sound (opening_session rules) early nothing)
         (own_front s.lines taken unread (own_alone s (taken ++ unread) (none_heard rules early) has.own)) has.far has.unrefused
-        in_taken (one_kept settles (unique_of c.message)) (message_one settles c order says)
+        in_taken (one_kept settles (unique_of c.message)) (message_one settles rules.whole c order says)
 
     last : IsLast first.rules first.lines told
     last = is_last first.rules first.lines told (subst (λ n. HasOne n first.lines) (sym named) is.so)
@@ -341,8 +343,10 @@ told_again settles rules early taken again unread c m order told has ones in_tak
 
     one : f m ≡ spelling_of told ∷ []
     one =
-        ap (λ mark. reply_unmarked first mark (incoming_by m.message (said m.message))) (same.mark ∙ ap Some (sym named))
-        ∙ by_order (incoming_by m.message (said m.message)) (same.says ∙ ap (incoming_by c.message) says)
+        ap (λ mark. reply_unmarked first mark (incoming_by m.message (said_to first.rules.whole m.message)))
+        (same.mark ∙ ap Some (sym named))
+        ∙ by_order (incoming_by m.message (said_to first.rules.whole m.message))
+        (same.says first.rules.whole ∙ ap (incoming_by c.message) (ap (λ (r : Rules). said_to r.whole c.message) began ∙ says))
       where
         u : ℕ
         u = unique_of c.message

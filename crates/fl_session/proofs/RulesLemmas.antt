@@ -86,11 +86,11 @@ by_message s c = go s.handshake.over refl
   where
     there : Session
     there = with_either (record s { handshake = advanced s.handshake c.message })
-        (unmarked s.resends (unique_of c.message)) c.refused (incoming_of s.handshake c.message)
+        (unmarked s.resends (unique_of c.message)) c.refused (incoming_of s.rules.whole s.handshake c.message)
 
     on : IsAlike there (record s { handshake = advanced s.handshake c.message })
     on = by_either (record s { handshake = advanced s.handshake c.message })
-        (unmarked s.resends (unique_of c.message)) c.refused (incoming_of s.handshake c.message)
+        (unmarked s.resends (unique_of c.message)) c.refused (incoming_of s.rules.whole s.handshake c.message)
 
     go : (over : Bool) → s.handshake.over ≡ over → IsMoved s (with_message s c) c.message
     go true is = record { rules = rw is refl; heard = rw is refl; resends = rw is refl; handshake = rw is refl }

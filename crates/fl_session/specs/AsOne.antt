@@ -10,13 +10,12 @@ use Rattle.fl_session.specs.Again.{response_under, unmarked}
 use Rattle.fl_session.specs.Once.{AllComeAgain, AreNew, IsUnknown, SaysTheSame, resumed, under_way}
 use Rattle.fl_session.specs.Session.{Came, Session, recalled_in, with_orders}
 use Rattle.fl_session.specs.Whole.{bytes_in}
-use Rattle.fl_transport.specs.Handshake.{incoming_by}
+use Rattle.fl_transport.specs.Handshake.{incoming_by, said_to}
 use Rattle.fl_transport.specs.declared.handshake.Incoming.{Incoming}
 use Rattle.fl_transport.specs.declared.handshake.Incoming.TheVariants as incoming
 use Rattle.fl_waiting.specs.Waiting.{is_parked}
 use Rattle.fl_wire.specs.Batch.{forgets_in}
 use Rattle.fl_wire.specs.Layout.{unique_of}
-use Rattle.fl_wire.specs.Says.{said}
 use Rattle.fl_wire.specs.Spell.{spelling_of}
 
 -- ---- what is sent to messages that come again
@@ -47,8 +46,8 @@ reply_unmarked s (Some unique) it = reply_again s unique it
 -- all that a session sends when these messages come again
 abbrev pub replies_again : Session → List Came → List (List ℕ)
 replies_again s came =
-    flat_map (λ c. reply_unmarked s (unmarked true (unique_of c.message)) (incoming_by c.message (said c.message)))
-    came
+    flat_map (λ c. reply_unmarked s (unmarked true (unique_of c.message))
+    (incoming_by c.message (said_to s.rules.whole c.message))) came
 
 -- ---- two sessions as one
 
@@ -88,7 +87,7 @@ part_of s batch count = with_orders s (take count (forgets_in batch)) []
 -- batch comes again with a mark, and its other orders are refused or not as those of the batch. A batch has at most 509
 -- orders, so `few` is so.
 pub record IsCutInside (s : Session) (count : ℕ) (batch marked : Came) : Type 0 where
-  pub is_batch : said batch.message ≡ Err Batch
+  pub is_batch : said_to s.rules.whole batch.message ≡ Err Batch
   pub same : SaysTheSame batch.message marked.message
   pub unknown : IsUnknown s (unique_of batch.message)
   pub unrefused : NoneRefused (take count batch.refused)

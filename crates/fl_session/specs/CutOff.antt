@@ -6,9 +6,9 @@ use Rattle.fl_order.specs.declared.refusal.Refusal.TheVariants.{Batch}
 use Rattle.fl_order.specs.declared.told.Told.{Told}
 use Rattle.fl_session.specs.Once.{under_way}
 use Rattle.fl_session.specs.Session.{Came, Session, session_of, with_orders}
+use Rattle.fl_transport.specs.Handshake.{said_to}
 use Rattle.fl_waiting.specs.declared.rules.Rules.{Rules}
 use Rattle.fl_wire.specs.Batch.{forgets_in}
-use Rattle.fl_wire.specs.Says.{said}
 
 -- lines with these replies behind them
 abbrev pub with_replies : List Line → List Told → List Line
@@ -30,7 +30,7 @@ pub record AreOfPart (s : Session) (left : List Came) (lines : List Line) : Type
   pub later : List Came
   pub count : ℕ
   pub next : left ≡ batch ∷ later
-  pub is_batch : said batch.message ≡ Err Batch
+  pub is_batch : said_to s.rules.whole batch.message ≡ Err Batch
   pub far : s.handshake ≡ under_way
   pub some : count < length (forgets_in batch.message)
   pub stand : lines ≡ (cut_in s batch count).lines

@@ -1,5 +1,5 @@
 -- What lines have of a unique that its client uses for one message.
-use Rattle.std.specs.Prelude.{◌≡◌, ◌≢◌, ℕ, ◌+◌, ◌<◌, ◌≤◌, true, List, [], ◌∷◌, ◌++◌, length, map}
+use Rattle.std.specs.Prelude.{◌≡◌, ◌≢◌, ℕ, ◌+◌, ◌<◌, ◌≤◌, Bool, true, List, [], ◌∷◌, ◌++◌, length, map}
 use Rattle.std.specs.Prelude.{set, slice_index, Some, Ok, Err, ⊤}
 use Rattle.std.specs.List.{AllByRecursion}
 use Rattle.fl_history.specs.Recent.{spoken}
@@ -13,9 +13,9 @@ use Rattle.fl_order.specs.declared.told.Told.{Told}
 use Rattle.fl_session.specs.Again.{unmarked}
 use Rattle.fl_session.specs.Once.{SaysTheSame}
 use Rattle.fl_session.specs.Session.{Came}
+use Rattle.fl_transport.specs.Handshake.{said_to}
 use Rattle.fl_wire.specs.Batch.{forgets_in}
 use Rattle.fl_wire.specs.Layout.{unique_of}
-use Rattle.fl_wire.specs.Says.{said}
 
 -- a line is of this unique: an order, a reply, or a request that a head tells
 abbrev pub IsOf : ℕ → Line → Type 0
@@ -85,14 +85,14 @@ AreMarked (c ∷ came) [] = ⊥
 AreMarked (c ∷ came) (m ∷ marked) =
     SaysTheSame c.message m.message × (m.refused ≡ c.refused) × AreMarked came marked
 
--- a message is an order that is sent again, marked, and has this unique without its mark
-pub record IsOrderAgain (unique : ℕ) (message : List ℕ) : Type 0 where
+-- To a session, whole or not, a message is an order that is sent again, marked, and has this unique without its mark.
+pub record IsOrderAgain (whole : Bool) (unique : ℕ) (message : List ℕ) : Type 0 where
   pub order : Order
   pub marked : unmarked true (unique_of message) ≡ Some unique
-  pub says : said message ≡ Ok order
+  pub says : said_to whole message ≡ Ok order
 
--- a message is a batch of so many orders that is sent again, marked, and has this unique without its mark
-pub record IsBatchAgain (unique count : ℕ) (message : List ℕ) : Type 0 where
+-- the same of a batch of so many orders
+pub record IsBatchAgain (whole : Bool) (unique count : ℕ) (message : List ℕ) : Type 0 where
   pub marked : unmarked true (unique_of message) ≡ Some unique
-  pub says : said message ≡ Err Batch
+  pub says : said_to whole message ≡ Err Batch
   pub counted : length (forgets_in message) ≡ count

@@ -6,7 +6,7 @@ use Rattle.fl_history.specs.declared.recent.Recalled.TheVariants as recall
 use Rattle.fl_order.specs.declared.order.Order.{Order}
 use Rattle.fl_session.specs.Again.{incoming_under, unmarked}
 use Rattle.fl_session.specs.Session.{Came, Session, recalled_in, session_behind, with_message}
-use Rattle.fl_transport.specs.Handshake.{incoming_by, says_destroy}
+use Rattle.fl_transport.specs.Handshake.{incoming_by, said_to, says_destroy}
 use Rattle.fl_transport.specs.declared.handshake.Handshake.{Handshake}
 use Rattle.fl_transport.specs.declared.handshake.Incoming.{Incoming}
 use Rattle.fl_transport.specs.declared.handshake.Incoming.TheVariants as incoming
@@ -43,17 +43,18 @@ pub record ComesAgain (s : Session) (message : List ℕ) : Type 0 where
   pub unique : ℕ
   pub marked : unmarked true (unique_of message) ≡ Some unique
   pub stays : says_destroy (said message) ≡ false
-  pub had : is_had s unique (length (orders_in (incoming_by message (said message)))) ≡ true
+  pub had : is_had s unique (length (orders_in (incoming_by message (said_to s.rules.whole message)))) ≡ true
 
 -- the same of each of these
 abbrev pub AllComeAgain : Session → List Came → Type 0
 AllComeAgain s [] = ⊤
 AllComeAgain s (c ∷ came) = ComesAgain s c.message × AllComeAgain s came
 
--- a message with a mark says what one without it says
+-- a message with a mark says what one without it says, to a session that is whole and to one that isn't
 pub record SaysTheSame (message marked : List ℕ) : Type 0 where
   pub mark : unmarked true (unique_of marked) ≡ Some (unique_of message)
-  pub says : incoming_under (unique_of message) (incoming_by marked (said marked)) ≡ incoming_by message (said message)
+  pub says : (whole : Bool) → incoming_under (unique_of message) (incoming_by marked (said_to whole marked))
+      ≡ incoming_by message (said_to whole message)
   pub ends : says_destroy (said marked) ≡ says_destroy (said message)
 
 -- in a session no request of this unique is parked, and the last lines say nothing of it

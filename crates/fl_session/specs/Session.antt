@@ -120,7 +120,7 @@ abbrev pub with_message : Session → Came → Session
 with_message s came =
     if s.handshake.over then s
     else with_either (record s { handshake = advanced s.handshake came.message })
-    (unmarked s.resends (unique_of came.message)) came.refused (incoming_of s.handshake came.message)
+    (unmarked s.resends (unique_of came.message)) came.refused (incoming_of s.rules.whole s.handshake came.message)
 
 -- a session that goes on by these messages
 abbrev pub session_from : Session → List Came → Session

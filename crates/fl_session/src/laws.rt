@@ -17,8 +17,7 @@ ghost use Rattle.fl_order.specs.OpKind.{kind_of_opcode};
 ghost use Rattle.fl_order.specs.declared.kind.OpKind.TheVariants as kinds;
 ghost use Rattle.fl_order.specs.declared.order.Order.{Order};
 ghost use Rattle.fl_order.specs.declared.told.Told.{Told};
-ghost use Rattle.fl_session.specs.AsOne.{AllPlain, AreAsOne, IsCutInside, IsSentAgain, NoneRefused, part_of};
-ghost use Rattle.fl_session.specs.AsOne.{replies_again};
+ghost use Rattle.fl_session.specs.AsOne.{AllPlain, AreAsOne, IsCutInside, IsSentAgain, NoneRefused, part_of, replies_again};
 ghost use Rattle.fl_session.specs.Client.{AreOnesAgain, HasTaken, IsNear};
 ghost use Rattle.fl_session.specs.CutOff.{AreTakenOf, cut_in, with_replies};
 ghost use Rattle.fl_session.specs.Known.{AreMarked, HaveBatch, HaveNothing, HaveOrder, HaveOwnUniques, HaveReply};
@@ -27,7 +26,7 @@ ghost use Rattle.fl_session.specs.Once.{AllComeAgain, AreNew, ComesAgain, IsUnkn
 ghost use Rattle.fl_session.specs.Session.{Came, Session, session_behind, session_from, session_of, with_message};
 ghost use Rattle.fl_session.specs.Session.{with_orders};
 ghost use Rattle.fl_session.specs.Whole.{bytes_in};
-ghost use Rattle.fl_transport.specs.Handshake.{incoming_by, is_agreed, opening, says_destroy};
+ghost use Rattle.fl_transport.specs.Handshake.{incoming_by, is_agreed, opening, said_to, says_destroy};
 ghost use Rattle.fl_transport.specs.declared.handshake.Incoming.TheVariants as incoming;
 ghost use Rattle.fl_transport.specs.declared.response.Response.{Response};
 ghost use Rattle.fl_waiting.specs.Waiting.{is_parked};
@@ -106,7 +105,7 @@ pub fn a_client_that_sends_again_has_one_session()
     ensures replied { (rules : Rules) (early taken again unread : List Came) (c same : Came) (order : Order)
         (told : Told) → HasTaken (session_of rules early) taken unread
         → AreOnesAgain (session_of rules (early ++ taken)) taken again
-        → Contains taken c → said c.message ≡ Ok order → told.unique ≡ unique_of c.message
+        → Contains taken c → said_to rules.whole c.message ≡ Ok order → told.unique ≡ unique_of c.message
         → Contains (session_of rules (early ++ taken)).lines (line.Told told)
         → Contains again same → SaysTheSame c.message same.message
         → Contains (replies_again (session_of rules (early ++ taken)) again) (spelling_of told) }
@@ -177,10 +176,11 @@ pub fn later_messages_are_as_in_one_session()
 /// a message, from what is there by then if it is whole.
 pub fn a_reply_is_sent_again()
     ensures stored { (s : Session) (again : List Came) (c : Came) (told : Told) → HaveReply (s.heard ++ s.lines) told
-        → Contains again c → IsOrderAgain told.unique c.message
+        → Contains again c → IsOrderAgain s.rules.whole told.unique c.message
         → Contains (replies_again s again) (spelling_of told) }
     ensures own { (s : Session) (again : List Came) (c same : Came) (response : Response) (r : List ℕ)
-        → SaysTheSame c.message same.message → incoming_by c.message (said c.message) ≡ incoming.Response response
+        → SaysTheSame c.message same.message
+        → incoming_by c.message (said_to s.rules.whole c.message) ≡ incoming.Response response
         → Contains (bytes_in s.rules s.lines response) r → Contains again same → Contains (replies_again s again) r }
 {}
 
@@ -190,16 +190,17 @@ pub fn a_reply_is_sent_again()
 /// session, but a DESTROY.
 pub fn a_message_comes_again_whose_order_is_there()
     ensures replied { (s : Session) (told : Told) (message : List ℕ) → HaveReply (s.heard ++ s.lines) told
-        → IsOrderAgain told.unique message → ComesAgain s message }
+        → IsOrderAgain s.rules.whole told.unique message → ComesAgain s message }
     ensures asked { (s : Session) (unique : ℕ) (message : List ℕ) → HaveOrder (s.heard ++ s.lines) unique
-        → IsOrderAgain unique message → ComesAgain s message }
+        → IsOrderAgain s.rules.whole unique message → ComesAgain s message }
     ensures batch { (s : Session) (unique : ℕ) (orders : List Order) (message : List ℕ)
-        → HaveBatch (s.heard ++ s.lines) unique orders → IsBatchAgain unique (length orders) message → ComesAgain s message }
-    ensures parked { (s : Session) (unique : ℕ) (message : List ℕ)
-        → is_parked unique (state_after s.rules s.lines).view.parked ≡ true → IsOrderAgain unique message
+        → HaveBatch (s.heard ++ s.lines) unique orders → IsBatchAgain s.rules.whole unique (length orders) message
         → ComesAgain s message }
+    ensures parked { (s : Session) (unique : ℕ) (message : List ℕ)
+        → is_parked unique (state_after s.rules s.lines).view.parked ≡ true
+        → IsOrderAgain s.rules.whole unique message → ComesAgain s message }
     ensures own { (s : Session) (message marked : List ℕ) (response : Response)
-        → SaysTheSame message marked → incoming_by message (said message) ≡ incoming.Response response
+        → SaysTheSame message marked → incoming_by message (said_to s.rules.whole message) ≡ incoming.Response response
         → says_destroy (said message) ≡ false → ComesAgain s marked }
 {}
 

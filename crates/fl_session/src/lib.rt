@@ -8,8 +8,7 @@
 //! session knows messages that are sent again, by bit 63 of their unique: the last lines say whether their orders came,
 //! and are answered. If its lines begin with a head, those that it heard before say so, too. `laws` says what a killed
 //! server leaves, and what this means for its client. Contracts let through a session that
-//! - says `NoMemory` having read nothing, refuses every order for memory, or loses all of a batch after one that is
-//!   refused;
+//! - says `NoMemory` having read nothing, refuses every order for memory, or loses all of a batch after a refused one;
 //! - tells `Read` or `Write` early, or `Unstored` unless lines stay in memory or nowhere, since contracts see no
 //!   failure of a reader, a writer or a journal, or goes on reading once lines couldn't be stored;
 //! - sends its replies only at its end, or stores no lines before a read where no reply waits.

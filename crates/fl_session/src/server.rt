@@ -35,8 +35,7 @@ pub(crate) struct Server<J: Journal> {
 }
 
 impl<J: Journal> Server<J> {
-    /// No message came yet. There is room for the replies of an order, and the last lines are those that were heard
-    /// and then the desk's own.
+    /// No message came yet. There is room for an order's replies, and the last lines are those heard, then the desk's.
     pub(crate) fn new(
         desk: Desk<J>,
         heard: Past<Line>,
@@ -85,7 +84,8 @@ impl<J: Journal> Server<J> {
         ensures answered { IsAnswered self.old self.new (outgoing W.contents replying.old.batch)
             (outgoing W.contents replying.new.batch) frame.now }
     {
-        match &self.handshake.receive(frame) {
+        let whole = self.desk.present().rules().whole;
+        match &self.handshake.receive(frame, whole) {
             Incoming::Order(single) => {
                 let mut order = BLANK;
                 single.read(&mut order);
@@ -111,7 +111,8 @@ impl<J: Journal> Server<J> {
         ensures answered { IsAnswered self.old self.new (outgoing W.contents replying.old.batch)
             (outgoing W.contents replying.new.batch) frame.now }
     {
-        match &self.handshake.receive(frame) {
+        let whole = self.desk.present().rules().whole;
+        match &self.handshake.receive(frame, whole) {
             Incoming::Order(single) => {
                 let mut order = BLANK;
                 single.read(&mut order);

@@ -1,13 +1,13 @@
 //! What a whole session answers besides orders, from what is there. No line tells of it.
 
-ghost use Rattle.std.specs.Prelude.{◌≡◌, ◌+◌, ◌≤◌, ◌++◌, ◌∷◌, [], IfSome, None, length};
-ghost use Rattle.fl_dir.specs.Replies.{directory_error};
+ghost use Rattle.std.specs.Prelude.{◌≡◌, ◌+◌, ◌≤◌, ◌++◌, ◌∷◌, [], IfSome, None, length, min};
+ghost use Rattle.fl_dir.specs.Directory.{attributes_at};
 ghost use Rattle.fl_session.specs.Inside.UnderWay.{WritesBehind};
 ghost use Rattle.fl_session.specs.Inside.Listing.{entry_of};
-ghost use Rattle.fl_session.specs.Whole.{bytes_in, entries_behind, list_error, whole_reply};
+ghost use Rattle.fl_session.specs.Whole.{bytes_in, entries_behind, list_error, listing_error, mode_in, whole_reply};
 ghost use Rattle.fl_transport.specs.Collecting.{Collects, outgoing};
 ghost use Rattle.fl_transport.specs.Outbox.{writer_of};
-ghost use Rattle.fl_wire.specs.Listing.{fitting, list_spelling};
+ghost use Rattle.fl_wire.specs.Listing.{dirent_of, fitting, list_spelling};
 ghost use Rattle.fl_wire.specs.Spell.{IsReply};
 
 use crate::replying::Replying;
@@ -20,9 +20,6 @@ use fl_transport::laws::a_reply_by_itself_is_collected;
 use fl_transport::{ReplyBuffer, Response};
 use fl_wire::WholeAsk;
 use std::io::Write;
-
-// The mode of the root in a list: a directory, `S_IFDIR`, with the permissions that its attributes tell.
-const ROOT_MODE: u32 = 0o40755;
 
 // The most bytes of a list, and the fewest for which one can be asked: those of an entry with the longest name.
 const MOST_LIST: u32 = 4096;
@@ -78,10 +75,7 @@ fn lay_out(replies: &mut ReplyBuffer, unique: u64, ask: &WholeAsk, present: &Cor
     let directory = present.directory();
     let result = match *ask {
         WholeAsk::List { node, cookie, size } => match list_error(directory, node, size) {
-            None => {
-                let most = size.min(MOST_LIST);
-                return lay_out_list(replies, unique, directory, cookie, most);
-            }
+            None => return list(replies, unique, directory, node, cookie, size),
             Some(e) => Err(e),
         },
         WholeAsk::Statfs => {
@@ -96,38 +90,35 @@ fn lay_out(replies: &mut ReplyBuffer, unique: u64, ask: &WholeAsk, present: &Cor
 
 // Why there is no list of a node in so many bytes.
 fn list_error(directory: &Dir, node: u64, size: u32) -> Option<Errno>
-    ensures { result ≡ list_error (directory_error directory.now node) size }
+    ensures { result ≡ list_error (listing_error directory.now node) size }
 {
-    if let Some(e) = directory.directory_error(node) {
-        return Some(e);
-    }
-    if size < LEAST_LIST {
-        Some(Errno::EINVAL)
-    } else {
-        None
+    match directory.directory_error(node) {
+        Some(e) if !directory.is_folder(node) => Some(e),
+        _ if size < LEAST_LIST => Some(Errno::EINVAL),
+        _ => None,
     }
 }
 
-// Lays out the list of the entries behind a cookie, as far as they have at most so many bytes.
-fn lay_out_list(replies: &mut ReplyBuffer, unique: u64, directory: &Dir, cookie: u64, most: u32)
-    requires { most ≤ 4096 }
-    ensures bytes { replies.new ≡ list_spelling unique (fitting most (entries_behind directory.now cookie)) }
+// Lays out the list of a folder's entries behind a cookie, as far as they fit in so many bytes, and in 4,096.
+fn list(replies: &mut ReplyBuffer, unique: u64, directory: &Dir, node: u64, cookie: u64, size: u32)
+    ensures bytes { replies.new
+        ≡ list_spelling unique (fitting (min size 4096) (entries_behind directory.now node cookie)) }
     ensures reply { IsReply replies.new }
 {
     replies.begin_list(unique);
-    append_entries(replies, directory, cookie, most);
+    append_entries(replies, directory, node, cookie, size.min(MOST_LIST));
     replies.end_list();
 }
 
-// Appends the entries behind a cookie to a list that has none yet, as far as they have at most so many bytes.
-fn append_entries(replies: &mut ReplyBuffer, directory: &Dir, cookie: u64, most: u32)
+// Appends a folder's entries behind a cookie to a list that has none yet, as far as they have at most so many bytes.
+fn append_entries(replies: &mut ReplyBuffer, directory: &Dir, node: u64, cookie: u64, most: u32)
     requires most { most ≤ 4096 }
     requires header { length replies.old ≡ 16 }
-    ensures items { replies.new ≡ replies.old ++ fitting most (entries_behind directory.now cookie) }
+    ensures items { replies.new ≡ replies.old ++ fitting most (entries_behind directory.now node cookie) }
     ensures few { length replies.new ≤ 16 + most }
 {
     let mut at = cookie;
-    while let Some(entry) = entry_behind(directory, at) {
+    while let Some(entry) = entry_behind(directory, node, at) {
         if !replies.append_dirent(entry.node, entry.cookie, entry.mode, entry.name, most) {
             break;
         }
@@ -135,36 +126,44 @@ fn append_entries(replies: &mut ReplyBuffer, directory: &Dir, cookie: u64, most:
     }
 }
 
-// The first entry behind a cookie.
-fn entry_behind<'a>(directory: &'a Dir, cookie: u64) -> Option<Listed<'a>>
-    ensures some { IfSome result (λ e. entries_behind directory.now cookie
-        ≡ entry_of e ∷ entries_behind directory.now e.cookie) }
-    ensures none { result ≡ None → entries_behind directory.now cookie ≡ [] }
+// The first entry of a folder behind a cookie.
+fn entry_behind<'a>(directory: &'a Dir, node: u64, cookie: u64) -> Option<Listed<'a>>
+    ensures some { IfSome result (λ e. entries_behind directory.now node cookie
+        ≡ entry_of e ∷ entries_behind directory.now node e.cookie) }
+    ensures none { result ≡ None → entries_behind directory.now node cookie ≡ [] }
     ensures short { IfSome result (λ e. length e.name.now ≤ 255) }
 {
     match cookie {
-        0 => Some(Listed {
-            node: ROOT,
-            cookie: 1,
-            mode: ROOT_MODE,
-            name: b".",
-        }),
-        1 => Some(Listed {
-            node: ROOT,
-            cookie: 2,
-            mode: ROOT_MODE,
-            name: b"..",
-        }),
-        _ => file_behind(directory, cookie),
+        0 => Some(folder_entry(directory, node, 1, b".")),
+        1 => Some(folder_entry(directory, ROOT, 2, b"..")),
+        _ if node == ROOT => file_behind(directory, cookie),
+        _ => None,
     }
 }
 
-// The first file behind a cookie that is a file's or that of `..`.
+// A folder's entry under this name, with this cookie.
+fn folder_entry<'a>(directory: &Dir, node: u64, cookie: u64, name: &'a [u8]) -> Listed<'a>
+    ensures entry { entry_of result ≡ dirent_of node cookie (mode_in (attributes_at directory.now node)) name.now }
+    ensures given { (result.cookie ≡ cookie) × (result.name.now ≡ name.now) }
+{
+    let mode = match directory.getattr(node) {
+        Ok(Answer::Attr(attr)) => attr.mode,
+        _ => 0,
+    };
+    Listed {
+        node,
+        cookie,
+        mode,
+        name,
+    }
+}
+
+// The first entry of the root behind a cookie that is a node's or that of `..`.
 fn file_behind<'a>(directory: &'a Dir, cookie: u64) -> Option<Listed<'a>>
     requires { 2 ≤ cookie }
-    ensures some { IfSome result (λ e. entries_behind directory.now cookie
-        ≡ entry_of e ∷ entries_behind directory.now e.cookie) }
-    ensures none { result ≡ None → entries_behind directory.now cookie ≡ [] }
+    ensures some { IfSome result (λ e. entries_behind directory.now 1 cookie
+        ≡ entry_of e ∷ entries_behind directory.now 1 e.cookie) }
+    ensures none { result ≡ None → entries_behind directory.now 1 cookie ≡ [] }
     ensures short { IfSome result (λ e. length e.name.now ≤ 255) }
 {
     match directory.next_linked(cookie) {

@@ -1,8 +1,9 @@
 -- How far its messages bring a session, and what each message is to it (Linux `fuse.h`, protocol 7.31).
-use Rattle.std.specs.Prelude.{ℕ, Bool, true, false, List, fold, Option, None, Some, Result, Ok, Err, if◌then◌else◌}
+use Rattle.std.specs.Prelude.{ℕ, Bool, true, false, not, ◌&&◌, List, fold, Option, None, Some, Result, Ok, Err}
+use Rattle.std.specs.Prelude.{if◌then◌else◌}
 use Rattle.fl_order.specs.OpKind.{kind_of_opcode}
 use Rattle.fl_order.specs.declared.errno.Errno.{Errno}
-use Rattle.fl_order.specs.declared.errno.Errno.TheVariants.{EPROTO}
+use Rattle.fl_order.specs.declared.errno.Errno.TheVariants.{ENOSYS, EPROTO}
 use Rattle.fl_order.specs.declared.kind.OpKind.{OpKind}
 use Rattle.fl_order.specs.declared.kind.OpKind.TheVariants as kinds
 use Rattle.fl_order.specs.declared.order.Order.{Order}
@@ -18,7 +19,7 @@ use Rattle.fl_wire.specs.Batch.{forgets_in}
 use Rattle.fl_wire.specs.Init.{init_step}
 use Rattle.fl_wire.specs.Layout.{opcode_of, unique_of}
 use Rattle.fl_wire.specs.Says.{said}
-use Rattle.fl_wire.specs.Whole.{whole_ask}
+use Rattle.fl_wire.specs.Whole.{is_for_whole, whole_ask}
 use Rattle.fl_wire.specs.declared.init.InitStep.{InitStep}
 use Rattle.fl_wire.specs.declared.init.InitStep.TheVariants.{Refused, Again, Agreed}
 use Rattle.fl_wire.specs.declared.whole.WholeAsk.{WholeAsk}
@@ -38,6 +39,10 @@ abbrev pub agrees : List ℕ → Option OpKind → Bool
 agrees message (Some kinds.Init) = is_agreed (init_step message)
 agrees message (Some kind) = false
 agrees message None = false
+
+-- what a message says to a session, which is whole or isn't: one that isn't doesn't know MKNOD, MKDIR and RMDIR
+abbrev pub said_to : Bool → List ℕ → Result Order Refusal
+said_to whole message = if not whole && is_for_whole message then Err (Answer ENOSYS) else said message
 
 -- a message that says this is a DESTROY
 abbrev pub says_destroy : Result Order Refusal → Bool
@@ -78,8 +83,8 @@ incoming_by message (Err Silent) = incoming.Response Nothing
 incoming_by message (Err Batch) = incoming.Batch (forgets_in message)
 incoming_by message (Err Destroy) = incoming.Response (goodbye_to message)
 
--- what a message is to a session that is this far, and isn't over
-abbrev pub incoming_of : Handshake → List ℕ → Incoming
-incoming_of handshake message =
-    if handshake.agreed then incoming_by message (said message)
+-- what a message is to a session, whole or not, that is this far, and isn't over
+abbrev pub incoming_of : Bool → Handshake → List ℕ → Incoming
+incoming_of whole handshake message =
+    if handshake.agreed then incoming_by message (said_to whole message)
     else incoming.Response (own_answer message (kind_of_opcode (opcode_of message)))

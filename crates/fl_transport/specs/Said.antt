@@ -1,5 +1,5 @@
 -- Which orders the messages of a session say.
-use Rattle.std.specs.Prelude.{ℕ, List, [], ◌∷◌, ◌++◌, if◌then◌else◌}
+use Rattle.std.specs.Prelude.{ℕ, false, List, [], ◌∷◌, ◌++◌, if◌then◌else◌}
 use Rattle.fl_order.specs.declared.order.Order.{Order}
 use Rattle.fl_transport.specs.Handshake.{advanced, incoming_of, opening}
 use Rattle.fl_transport.specs.declared.handshake.Handshake.{Handshake}
@@ -12,16 +12,17 @@ orders_in (incoming.Order order) = order ∷ []
 orders_in (incoming.Batch orders) = orders
 orders_in (incoming.Response response) = []
 
--- the orders that a message says to a session that is this far: after the INIT that was agreed, and before a DESTROY
+-- the orders that a message says to a session that isn't whole and is this far: after the INIT that was agreed, and
+-- before a DESTROY
 abbrev pub orders_said : Handshake → List ℕ → List Order
-orders_said handshake message = if handshake.over then [] else orders_in (incoming_of handshake message)
+orders_said handshake message = if handshake.over then [] else orders_in (incoming_of false handshake message)
 
--- the orders that these messages say to a session that is this far
+-- the orders that these messages say to a session that isn't whole and is this far
 abbrev pub said_from : Handshake → List (List ℕ) → List Order
 said_from handshake [] = []
 said_from handshake (message ∷ messages) =
     orders_said handshake message ++ said_from (advanced handshake message) messages
 
--- the orders that the messages of a session say
+-- the orders that the messages of a session say that isn't whole
 abbrev pub said_in : List (List ℕ) → List Order
 said_in messages = said_from opening messages

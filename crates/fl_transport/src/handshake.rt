@@ -3,7 +3,7 @@
 ghost use Rattle.std.specs.Prelude.{◌≡◌, true, false};
 ghost use Rattle.fl_order.specs.OpKind.{kind_of_opcode};
 ghost use Rattle.fl_transport.specs.Handshake.{advanced, agrees, incoming_of, incoming_by, opening, own_answer};
-ghost use Rattle.fl_transport.specs.Handshake.{refused, says_destroy};
+ghost use Rattle.fl_transport.specs.Handshake.{refused, said_to, says_destroy};
 ghost use Rattle.fl_transport.specs.Response.{goodbye_to};
 ghost use Rattle.fl_wire.specs.Layout.{opcode_of};
 ghost use Rattle.fl_wire.specs.Says.{said};
@@ -44,15 +44,15 @@ impl Handshake {
         }
     }
 
-    /// What a message of a session that isn't over is to it.
-    pub fn receive<'a>(&mut self, frame: &Frame<'a>) -> Incoming<'a>
+    /// What a message of a session that isn't over is to it. Whole sessions alone take MKNOD, MKDIR and RMDIR.
+    pub fn receive<'a>(&mut self, frame: &Frame<'a>, whole: bool) -> Incoming<'a>
         requires { self.old.over ≡ false }
-        ensures incoming { result ≡ incoming_of self.old frame.now }
+        ensures incoming { result ≡ incoming_of whole self.old frame.now }
         ensures advanced { self.new ≡ advanced self.old frame.now }
         ensures ends { self.new.over ≡ true → result ≡ Incoming.Response (goodbye_to frame.now) }
     {
         if self.agreed {
-            self.receive_after_init(frame)
+            self.receive_after_init(frame, whole)
         } else {
             Incoming::Response(self.receive_before_init(frame))
         }
@@ -77,13 +77,16 @@ impl Handshake {
     }
 
     // What a message is after an INIT is agreed.
-    fn receive_after_init<'a>(&mut self, frame: &Frame<'a>) -> Incoming<'a>
+    fn receive_after_init<'a>(&mut self, frame: &Frame<'a>, whole: bool) -> Incoming<'a>
         requires { self.old.over ≡ false }
-        ensures incoming { result ≡ incoming_by frame.now (said frame.now) }
+        ensures incoming { result ≡ incoming_by frame.now (said_to whole frame.now) }
         ensures agreed { self.new.agreed ≡ self.old.agreed }
         ensures over { self.new.over ≡ says_destroy (said frame.now) }
         ensures ends { self.new.over ≡ true → result ≡ Incoming.Response (goodbye_to frame.now) }
     {
+        if !whole && frame.is_for_whole() {
+            return Incoming::Response(refused(frame, Errno::ENOSYS));
+        }
         match frame.single() {
             Ok(order) => Incoming::Order(order),
             Err(Refusal::Answer(e)) => Incoming::Response(refused(frame, e)),

@@ -33,12 +33,12 @@ said_more handshake (x ∷ xs) ys = ap (λ l. orders_said handshake x ++ l) (sai
 -- the last message comes to a session that isn't over, and that is this far
 said_last : (messages : List (List ℕ)) (message : List ℕ) (handshake : Handshake) → handshake ≡ handshake_of messages
     → handshake.over ≡ false
-    → said_in (messages ++ message ∷ []) ≡ said_in messages ++ orders_in (incoming_of handshake message)
+    → said_in (messages ++ message ∷ []) ≡ said_in messages ++ orders_in (incoming_of false handshake message)
 said_last messages message handshake far live =
     said_more opening messages (message ∷ [])
     ∙ ap (λ l. said_in messages ++ l) (append-nil (orders_said (handshake_of messages) message)
     ∙ ap (λ h. orders_said h message) (sym far)
-    ∙ ap (λ over. if over then [] else orders_in (incoming_of handshake message)) live)
+    ∙ ap (λ over. if over then [] else orders_in (incoming_of false handshake message)) live)
 
 -- ---- what was answered
 
@@ -109,12 +109,12 @@ answers_more handshake (x ∷ xs) ys =
 -- the last message comes to a session that isn't over, and that is this far
 answers_last : (messages : List (List ℕ)) (message : List ℕ) (handshake : Handshake) → handshake ≡ handshake_of messages
     → handshake.over ≡ false
-    → own_answers (messages ++ message ∷ []) ≡ own_answers messages ++ own_answer_in (incoming_of handshake message)
+    → own_answers (messages ++ message ∷ []) ≡ own_answers messages ++ own_answer_in (incoming_of false handshake message)
 answers_last messages message handshake far live =
     answers_more opening messages (message ∷ [])
     ∙ ap (λ l. own_answers messages ++ l) (append-nil (own_answer_to (handshake_of messages) message)
     ∙ ap (λ h. own_answer_to h message) (sym far)
-    ∙ ap (λ over. if over then [] else own_answer_in (incoming_of handshake message)) live)
+    ∙ ap (λ over. if over then [] else own_answer_in (incoming_of false handshake message)) live)
 
 -- what is given at once and what is left are all
 all_answers : (over : Bool) (answers : List Response) (goodbye : Response) → (over ≡ true → answers ≡ goodbye ∷ [])
@@ -166,10 +166,10 @@ receiving_first left handshake orders goodbye sent lost inbox fresh none unanswe
 pub receiving_more : (it now : Reception) (old new : Handshake) (message rest rest_now : List ℕ)
     → IsReceiving it old rest → now.left ≡ it.left → now.left_now ≡ it.left_now → now.sent ≡ it.sent
     → old.over ≡ false → Takes message rest rest_now → new ≡ advanced old message
-    → now.orders ≡ it.orders ++ orders_in (incoming_of old message)
+    → now.orders ≡ it.orders ++ orders_in (incoming_of false old message)
     → (new.over ≡ true → now.goodbye ≡ goodbye_to message) → (new.over ≡ false → now.goodbye ≡ it.goodbye)
-    → (new.over ≡ true → own_answer_in (incoming_of old message) ≡ now.goodbye ∷ [])
-    → HasGiven it.sent_now now.sent_now it.lost now.lost (given_now new.over (own_answer_in (incoming_of old message)))
+    → (new.over ≡ true → own_answer_in (incoming_of false old message) ≡ now.goodbye ∷ [])
+    → HasGiven it.sent_now now.sent_now it.lost now.lost (given_now new.over (own_answer_in (incoming_of false old message)))
     → IsReceiving now new rest_now
 receiving_more it now old new message rest rest_now before from to same live takes there more ends stays left given =
     record {
@@ -178,11 +178,11 @@ receiving_more it now old new message rest rest_now before from to same live tak
           (sym (ap (λ h. h.over) before.far) ∙ live) before.is_read);
       far = there ∙ ap (λ h. advanced h message) before.far
           ∙ sym (fold-append advanced opening before.messages (message ∷ []));
-      said = more ∙ ap (λ l. l ++ orders_in (incoming_of old message)) before.said
+      said = more ∙ ap (λ l. l ++ orders_in (incoming_of false old message)) before.said
           ∙ sym (said_last before.messages message old before.far live);
       over = λ over. record { front = before.messages; last = message; parts = refl; answer = ends over };
       live = λ still. stays still ∙ before.live live;
-      own = answered_more it now old.over new.over before.messages message (own_answer_in (incoming_of old message))
+      own = answered_more it now old.over new.over before.messages message (own_answer_in (incoming_of false old message))
           live (answers_last before.messages message old before.far live) left same given before.own;
     }
 

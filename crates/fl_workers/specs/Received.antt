@@ -21,9 +21,9 @@ own_answer_in (incoming.Order order) = []
 own_answer_in (incoming.Batch orders) = []
 own_answer_in (incoming.Response response) = response ∷ []
 
--- the same of a message to a session that is this far; after a DESTROY nothing comes
+-- the same of a message to a session that isn't whole and is this far; after a DESTROY nothing comes
 abbrev pub own_answer_to : Handshake → List ℕ → List Response
-own_answer_to handshake message = if handshake.over then [] else own_answer_in (incoming_of handshake message)
+own_answer_to handshake message = if handshake.over then [] else own_answer_in (incoming_of false handshake message)
 
 -- the answers of the session itself to these messages, when it is this far
 abbrev pub own_answers_from : Handshake → List (List ℕ) → List Response

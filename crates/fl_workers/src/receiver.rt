@@ -194,15 +194,16 @@ impl<'g, 'a, 'w, R: Wait, C: Counter, G: Gate, W: Write, N: WriterName> Receiver
             × (self.new.orders.put.takers ≡ self.old.orders.put.takers) }
         ensures advanced { self.new.handshake ≡ advanced self.old.handshake frame.now }
         ensures dispatched { DispatchesMore C.shows self.old.orders.put.put self.old.orders.inline
-            self.new.orders.put.put self.new.orders.inline (orders_in (incoming_of self.old.handshake frame.now)) }
+            self.new.orders.put.put self.new.orders.inline
+            (orders_in (incoming_of false self.old.handshake frame.now)) }
         ensures ends { self.new.handshake.over ≡ true → self.new.goodbye ≡ goodbye_to frame.now }
         ensures live { self.new.handshake.over ≡ false → self.new.goodbye ≡ self.old.goodbye }
         ensures left { self.new.handshake.over ≡ true
-            → own_answer_in (incoming_of self.old.handshake frame.now) ≡ self.new.goodbye ∷ [] }
+            → own_answer_in (incoming_of false self.old.handshake frame.now) ≡ self.new.goodbye ∷ [] }
         ensures given { HasGiven self.old.own self.new.own self.old.lost self.new.lost
-            (given_now self.new.handshake.over (own_answer_in (incoming_of self.old.handshake frame.now))) }
+            (given_now self.new.handshake.over (own_answer_in (incoming_of false self.old.handshake frame.now))) }
     {
-        let incoming = self.handshake.receive(frame);
+        let incoming = self.handshake.receive(frame, false);
         match &incoming {
             Incoming::Order(order) => self.orders.put(order),
             Incoming::Batch(orders) => self.orders.put_all(orders),

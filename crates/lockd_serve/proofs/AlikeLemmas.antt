@@ -219,17 +219,19 @@ module _ (leads_on : (lines : List Line) (p : Snapshot) (worker : ℕ) (order : 
   abbrev far : Session → Handshake → List ℕ → Session
   far s h message = record s { handshake = advanced h message }
 
-  -- one message more, by how far a session is and whether it knows messages that are sent again
-  abbrev messaged : Session → Handshake → Bool → Came → Session
-  messaged s h resends came =
-      cond h.over s (with_either (far s h came.message) (unmarked resends (unique_of came.message)) came.refused (incoming_of h came.message))
+  -- one message more, by whether a session is whole, how far it is and whether it knows messages that are sent again
+  abbrev messaged : Session → Bool → Handshake → Bool → Came → Session
+  messaged s whole h resends came =
+      cond h.over s (with_either (far s h came.message) (unmarked resends (unique_of came.message)) came.refused (incoming_of whole h came.message))
 
   one_message : (s t : Session) (came : Came) → AreAlike s t → Both s t (with_message s came) (with_message t came)
   one_message s t came a =
-      subst (Both s t (with_message s came)) (λ i. messaged t (sym a.handshake i) (sym a.resends i) came) (go s.handshake.over)
+      let rules : s.rules ≡ t.rules = sym a.s_rules ∙ a.t_rules in
+      subst (Both s t (with_message s came)) (λ i. messaged t (rules i).whole (sym a.handshake i) (sym a.resends i) came)
+      (go s.handshake.over)
     where
       rest : Session → Session
-      rest x = with_either (far x s.handshake came.message) (unmarked s.resends (unique_of came.message)) came.refused (incoming_of s.handshake came.message)
+      rest x = with_either (far x s.handshake came.message) (unmarked s.resends (unique_of came.message)) came.refused (incoming_of s.rules.whole s.handshake came.message)
 
       advance : AreAlike (far s s.handshake came.message) (far t s.handshake came.message)
       advance = record {
@@ -247,7 +249,7 @@ module _ (leads_on : (lines : List Line) (p : Snapshot) (worker : ℕ) (order : 
       go : (over : Bool) → Both s t (cond over s (rest s)) (cond over t (rest t))
       go true = stay s t a
       go false =
-          let both = either_so (unmarked s.resends (unique_of came.message)) (incoming_of s.handshake came.message) came.refused
+          let both = either_so (unmarked s.resends (unique_of came.message)) (incoming_of s.rules.whole s.handshake came.message) came.refused
           (far s s.handshake came.message) (far t s.handshake came.message) advance in (
             both.0,
             record {

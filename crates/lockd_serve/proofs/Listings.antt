@@ -1,7 +1,7 @@
 -- The numbers of a directory fit their fields, and so does what is answered there.
 use Rattle.std.proofs.Common.{◌≡◌, ◌≢◌, ℕ, ◌+◌, ◌-◌, ◌^◌, ◌<◌, ◌==◌, Bool, true, false, cond, not, ◌||◌, if◌then◌else◌}
 use Rattle.std.proofs.Common.{T, Option, Some, None, option_map, Result, Ok, Err, List, [], ◌∷◌, refl, ap, sym, ◌∙◌, subst, arith}
-use Rattle.std.specs.Prelude.{bit_and, nat_le}
+use Rattle.std.specs.Prelude.{bit_and, bit_or, nat_le}
 use Rattle.std.specs.List as list
 use Rattle.std.specs.declared.cmp.Ordering.{Ordering}
 use Rattle.std.specs.declared.cmp.Ordering.TheVariants.{Less, Equal, Greater}
@@ -16,13 +16,17 @@ use Rattle.std.proofs.lemmas.Nat.{and_le_r}
 use Rattle.std.specs.Int.Bits.{or_add_and}
 use Rattle.fl_dir.specs.declared.node.Node.{Node}
 use Rattle.fl_dir.specs.Changes.{changed_at, set_at, counted_up, counted_down, without_link, swept, swept_node, looked_up}
-use Rattle.fl_dir.specs.Changes.{after_lookup, after_create, after_open, after_unlink, after_forget, after_close, unlinked}
-use Rattle.fl_dir.specs.Directory.{Listing, attributes, attributes_at, is_known, is_named, is_reserved, linked, made_node, nodes_full, root_attributes}
+use Rattle.fl_dir.specs.Changes.{after_lookup, after_create, after_make, after_mkdir, after_mknod, after_open, after_unlink, after_forget}
+use Rattle.fl_dir.specs.Changes.{after_close, unlinked}
+use Rattle.fl_dir.specs.Directory.{Listing, attributes, attributes_at, file_mode, folder_mode, is_folder, is_folder_at, is_known, is_named, is_regular}
+use Rattle.fl_dir.specs.Directory.{is_reserved, linked, made_node, mknod_mode, nodes_full, root_attributes}
 use Rattle.fl_dir.specs.OpenFiles.{files_full, lives, without_file}
-use Rattle.fl_dir.specs.Replies.{directory_error, found_reply, lookup_reply, created_or_reopened, create_reply, open_reply}
-use Rattle.fl_dir.specs.Replies.{lookups_full, attr_reply, getattr_reply, unlink_reply, unlinked_reply, unless_error}
+use Rattle.fl_dir.specs.Replies.{directory_error, making_error, found_reply, lookup_reply, created_or_reopened, create_reply, open_reply}
+use Rattle.fl_dir.specs.Replies.{if_free, made, make_reply, mkdir_reply, mknod_reply, lookups_full, attr_reply, getattr_reply, removed_reply}
+use Rattle.fl_dir.specs.Replies.{rmdir_reply, unlink_reply, unlinked_reply, unless_error}
 use Rattle.fl_order.specs.Sayable.{FitsAttr, FitsAnswer, FitsResult, FitsTold}
 use Rattle.fl_order.specs.declared.errno.Errno.{Errno}
+use Rattle.fl_order.specs.declared.errno.Errno.TheVariants.{EPERM}
 use Rattle.fl_order.specs.declared.told.Answer.{Answer}
 use Rattle.fl_order.specs.declared.told.Answer.TheVariants.{Done, Entry, Attr as Attributes, Open, Made, Lock}
 use Rattle.fl_order.specs.declared.told.Told.{Told}
@@ -31,7 +35,7 @@ use Rattle.fl_order.specs.declared.told.Told.{Told}
 
 abbrev pub SitsAnswer : Answer → Type 0
 SitsAnswer Done = Unit {0}
-SitsAnswer (Entry attr) = FitsAttr attr
+SitsAnswer (Entry attr) = FitsAttr attr × (attr.node + 1 < 2 ^ 64)
 SitsAnswer (Attributes attr) = FitsAttr attr
 SitsAnswer (Open fh) = fh + 1 < 2 ^ 64
 SitsAnswer (Made attr fh) = FitsAttr attr × (attr.node + 1 < 2 ^ 64) × (fh + 1 < 2 ^ 64)
@@ -47,7 +51,7 @@ pub record SitsTold (told : Told) : Type 0 where
 
 fits_answer : (answer : Answer) → SitsAnswer answer → FitsAnswer answer
 fits_answer Done s = tt
-fits_answer (Entry attr) s = s
+fits_answer (Entry attr) s = s.0
 fits_answer (Attributes attr) s = s
 fits_answer (Open fh) s = omega arith
 fits_answer (Made attr fh) s = (s.0, let more = s.2 in omega arith)
@@ -159,6 +163,26 @@ nodes_remove nodes k fits q node e =
     go true h = absurd (cc h)
     go false h = fits q node h
 
+-- ---- nodes that are made
+
+mode_fits : (kind mode bits : ℕ) → kind < 2 ^ 31 → bits < 2 ^ 31 → bit_or kind (bit_and mode bits) < 2 ^ 32
+mode_fits kind mode bits few_kind few_bits = omega (arith, or_add_and kind (bit_and mode bits), and_le_r mode bits)
+
+abbrev MadeFits : Node → Type 0
+MadeFits node = (number : ℕ) → number + 1 < 2 ^ 64 → NodeFits number node
+
+file_fits : (uid gid mode : ℕ) (name : List ℕ) → uid < 2 ^ 32 → gid < 2 ^ 32 → MadeFits (made_node uid gid (file_mode mode) name)
+file_fits uid gid mode name few_uid few_gid number few =
+    record { given = few; mode = mode_fits 32768 mode 511 (omega arith) (omega arith); uid = few_uid; gid = few_gid }
+
+mknod_fits : (uid gid mode : ℕ) (name : List ℕ) → uid < 2 ^ 32 → gid < 2 ^ 32 → MadeFits (made_node uid gid (mknod_mode mode) name)
+mknod_fits uid gid mode name few_uid few_gid number few =
+    record { given = few; mode = mode_fits 32768 mode 4095 (omega arith) (omega arith); uid = few_uid; gid = few_gid }
+
+folder_fits : (uid gid mode : ℕ) (name : List ℕ) → uid < 2 ^ 32 → gid < 2 ^ 32 → MadeFits (made_node uid gid (folder_mode mode) name)
+folder_fits uid gid mode name few_uid few_gid number few =
+    record { given = few; mode = mode_fits 16384 mode 4095 (omega arith) (omega arith); uid = few_uid; gid = few_gid }
+
 module _ (d : Listing) (fits : ListingFits d) where
   linked_fits : (name : List ℕ) (found : ℕ × Node) → linked d name ≡ Some found → NodeFits found.0 found.1
   linked_fits name found is = fits.nodes found.0 found.1 (get_found (λ e. is_named e.1 name) d.nodes found is)
@@ -167,11 +191,12 @@ module _ (d : Listing) (fits : ListingFits d) where
 
   attributes_fit : (number : ℕ) (node : Node) → NodeFits number node → FitsAttr (attributes number node)
   attributes_fit number node own =
-      record { node = omega arith; mode = own.mode; nlink = links node.linked; uid = own.uid; gid = own.gid }
+      record { node = omega arith; mode = own.mode; nlink = few node.linked (is_folder node); uid = own.uid; gid = own.gid }
     where
-      links : (b : Bool) → (if b then 1 else 0) < 2 ^ 32
-      links true = omega arith
-      links false = omega arith
+      few : (named folder : Bool) → (if named then (if folder then 2 else 1) else 0) < 2 ^ 32
+      few true true = omega arith
+      few true false = omega arith
+      few false folder = omega arith
 
   pub lookup_sits : (node : ℕ) (name : List ℕ) → SitsResult (lookup_reply d node name)
   lookup_sits node name =
@@ -181,7 +206,7 @@ module _ (d : Listing) (fits : ListingFits d) where
       found None own = tt
       found (Some f) own =
           sits_if (lookups_full f.1) (Err _) (Ok (Entry (attributes f.0 f.1))) (λ _. tt)
-          (λ _. attributes_fit f.0 f.1 (own f refl))
+          (λ _. (attributes_fit f.0 f.1 (own f refl), (own f refl).given))
 
   second : (x y : Bool) → (x || y) ≡ false → y ≡ false
   second true y e = absurd (cc e)
@@ -204,7 +229,8 @@ module _ (d : Listing) (fits : ListingFits d) where
   pub open_sits : (node : ℕ) → SitsResult (open_reply d node)
   open_sits node =
       sits_if (not (is_known d node)) _ _ (λ _. tt)
-      (λ _. sits_if (node == 1) _ _ (λ _. tt) (λ _. sits_if (files_full d) _ _ (λ _. tt) (λ few. fh_sits few)))
+      (λ _. sits_if ((node == 1) || is_folder_at d node) _ _ (λ _. tt)
+      (λ _. sits_if (files_full d) _ _ (λ _. tt) (λ few. fh_sits few)))
 
   attributes_at_fit : (number : ℕ) → SitsResult (attr_reply (attributes_at d number))
   attributes_at_fit number = root (number == 1)
@@ -230,39 +256,61 @@ module _ (d : Listing) (fits : ListingFits d) where
     where
       found : (o : Option (ℕ × Node)) → SitsResult (unlinked_reply o)
       found None = tt
-      found (Some f) = tt
+      found (Some f) = sits_if (is_folder f.1) _ _ (λ _. tt) (λ _. tt)
 
-  made_fits : (uid gid mode : ℕ) (name : List ℕ) (number : ℕ) → uid < 2 ^ 32 → gid < 2 ^ 32 → number + 1 < 2 ^ 64
-      → NodeFits number (made_node uid gid mode name)
-  made_fits uid gid mode name number few_uid few_gid few = record {
-    given = few;
-    mode = omega (arith, or_add_and 32768 (bit_and mode 511), and_le_r mode 511);
-    uid = few_uid;
-    gid = few_gid;
-  }
+  pub rmdir_sits : (node : ℕ) (name : List ℕ) → SitsResult (rmdir_reply d node name)
+  rmdir_sits node name =
+      sits_unless (directory_error d node) (removed_reply (linked d name)) (found (linked d name))
+    where
+      found : (o : Option (ℕ × Node)) → SitsResult (removed_reply o)
+      found None = tt
+      found (Some f) = sits_if (is_folder f.1) _ _ (λ _. tt) (λ _. tt)
 
   pub create_sits : (node uid gid : ℕ) (excl : Bool) (mode : ℕ) (name : List ℕ) → uid < 2 ^ 32 → gid < 2 ^ 32
       → SitsResult (create_reply d node uid gid excl mode name)
   create_sits node uid gid excl mode name few_uid few_gid =
-      sits_unless (directory_error d node) _
+      sits_unless (making_error d node) _
       (sits_if (is_reserved name) _ _ (λ _. tt) (λ _. either (linked d name) (linked_fits name)))
     where
       either : (o : Option (ℕ × Node)) → ((f : ℕ × Node) → o ≡ Some f → NodeFits f.0 f.1)
-          → SitsResult (created_or_reopened d excl (made_node uid gid mode name) o)
+          → SitsResult (created_or_reopened d excl (made_node uid gid (file_mode mode) name) o)
       either None own =
           sits_if (nodes_full d) _ _ (λ _. tt)
           (λ room. sits_if (files_full d) _ _ (λ _. tt)
           (λ few. (
-            attributes_fit d.next_node (made_node uid gid mode name)
-                (made_fits uid gid mode name d.next_node few_uid few_gid (node_sits room)),
+            attributes_fit d.next_node (made_node uid gid (file_mode mode) name)
+                (file_fits uid gid mode name few_uid few_gid d.next_node (node_sits room)),
             node_sits room,
             fh_sits few,
           )))
       either (Some f) own =
           sits_if excl _ _ (λ _. tt)
+          (λ _. sits_if (is_folder f.1) _ _ (λ _. tt)
           (λ _. sits_if (lookups_full f.1) _ _ (λ _. tt)
           (λ _. sits_if (files_full d) _ _ (λ _. tt)
-          (λ few. (attributes_fit f.0 f.1 (own f refl), (own f refl).given, fh_sits few))))
+          (λ few. (attributes_fit f.0 f.1 (own f refl), (own f refl).given, fh_sits few)))))
+
+  make_sits : (node : ℕ) (can : Bool) (new : Node) → MadeFits new → SitsResult (make_reply d node can new)
+  make_sits node can new own =
+      sits_unless (making_error d node) _ (sits_if (is_reserved new.name) _ _ (λ _. tt) (λ _. free (linked d new.name)))
+    where
+      free : (o : Option (ℕ × Node)) → SitsResult (if_free o (if can then made d new else Err EPERM))
+      free None =
+          sits_if can _ _
+          (λ _. sits_if (nodes_full d) _ _ (λ _. tt)
+          (λ room. (attributes_fit d.next_node new (own d.next_node (node_sits room)), node_sits room)))
+          (λ _. tt)
+      free (Some found) = tt
+
+  pub mknod_sits : (node uid gid mode : ℕ) (name : List ℕ) → uid < 2 ^ 32 → gid < 2 ^ 32
+      → SitsResult (mknod_reply d node uid gid mode name)
+  mknod_sits node uid gid mode name few_uid few_gid =
+      make_sits node (is_regular mode) (made_node uid gid (mknod_mode mode) name) (mknod_fits uid gid mode name few_uid few_gid)
+
+  pub mkdir_sits : (node uid gid mode : ℕ) (name : List ℕ) → uid < 2 ^ 32 → gid < 2 ^ 32
+      → SitsResult (mkdir_reply d node uid gid mode name)
+  mkdir_sits node uid gid mode name few_uid few_gid =
+      make_sits node true (made_node uid gid (folder_mode mode) name) (folder_fits uid gid mode name few_uid few_gid)
 
   -- ---- changes
 
@@ -309,8 +357,8 @@ after_create_fits d fits uid gid mode name (Ok (Made attr fh)) few_uid few_gid s
 }
   where
     go : (o : Option Node) → ((node : Node) → o ≡ Some node → NodeFits attr.node node)
-        → NodeFits attr.node (looked_up o (made_node uid gid mode name))
-    go None own = made_fits d fits uid gid mode name attr.node few_uid few_gid sits.1
+        → NodeFits attr.node (looked_up o (made_node uid gid (file_mode mode) name))
+    go None own = file_fits uid gid mode name few_uid few_gid attr.node sits.1
     go (Some node) own =
         let o = own node refl in
         record { given = o.given; mode = o.mode; uid = o.uid; gid = o.gid }
@@ -324,6 +372,27 @@ after_create_fits d fits uid gid mode name (Ok (Attributes attr)) few_uid few_gi
 after_create_fits d fits uid gid mode name (Ok (Open fh)) few_uid few_gid sits = fits
 after_create_fits d fits uid gid mode name (Ok (Lock start end kind pid)) few_uid few_gid sits = fits
 after_create_fits d fits uid gid mode name (Err e) few_uid few_gid sits = fits
+
+after_make_fits : (d : Listing) → ListingFits d → (new : Node) → MadeFits new → (reply : Result Answer Errno) → SitsResult reply
+    → ListingFits (after_make d new reply)
+after_make_fits d fits new own (Ok (Entry attr)) sits =
+    record { nodes = nodes_insert d.nodes attr.node new fits.nodes (own attr.node sits.1); next_node = sits.1; next_fh = fits.next_fh }
+after_make_fits d fits new own (Ok Done) sits = fits
+after_make_fits d fits new own (Ok (Attributes attr)) sits = fits
+after_make_fits d fits new own (Ok (Open fh)) sits = fits
+after_make_fits d fits new own (Ok (Made attr fh)) sits = fits
+after_make_fits d fits new own (Ok (Lock start end kind pid)) sits = fits
+after_make_fits d fits new own (Err e) sits = fits
+
+pub after_mknod_fits : (d : Listing) → ListingFits d → (uid gid mode : ℕ) (name : List ℕ) (reply : Result Answer Errno)
+    → uid < 2 ^ 32 → gid < 2 ^ 32 → SitsResult reply → ListingFits (after_mknod d uid gid mode name reply)
+after_mknod_fits d fits uid gid mode name reply few_uid few_gid sits =
+    after_make_fits d fits (made_node uid gid (mknod_mode mode) name) (mknod_fits uid gid mode name few_uid few_gid) reply sits
+
+pub after_mkdir_fits : (d : Listing) → ListingFits d → (uid gid mode : ℕ) (name : List ℕ) (reply : Result Answer Errno)
+    → uid < 2 ^ 32 → gid < 2 ^ 32 → SitsResult reply → ListingFits (after_mkdir d uid gid mode name reply)
+after_mkdir_fits d fits uid gid mode name reply few_uid few_gid sits =
+    after_make_fits d fits (made_node uid gid (folder_mode mode) name) (folder_fits uid gid mode name few_uid few_gid) reply sits
 
 pub after_open_fits : (d : Listing) → ListingFits d → (node : ℕ) (reply : Result Answer Errno) → SitsResult reply
     → ListingFits (after_open d node reply)

@@ -220,7 +220,7 @@ abbrev behind : Bool → Bool → Listing → ℕ → List Dirent
 behind first second d cookie =
     if first then dot ∷ dots ∷ files_from d 2 else if second then dots ∷ files_from d 2 else files_from d cookie
 
-rising_behind : (d : Listing) (cookie : ℕ) → AreRising cookie (entries_behind d cookie)
+rising_behind : (d : Listing) (cookie : ℕ) → AreRising cookie (entries_behind d 1 cookie)
 rising_behind d cookie = go (cookie == 0) refl (cookie == 1) refl
   where
     from : (n : ℕ) → AreRising n (files_from d n)
@@ -232,7 +232,7 @@ rising_behind d cookie = go (cookie == 0) refl (cookie == 1) refl
     go false is false other = from cookie
 
 file_behind : (d : Listing) (cookie number : ℕ) (node : Node) → get d.nodes number ≡ Some node → node.linked ≡ true
-    → 1 < number → cookie ≤ number → Contains (entries_behind d cookie) (file_entry (number, node))
+    → 1 < number → cookie ≤ number → Contains (entries_behind d 1 cookie) (file_entry (number, node))
 file_behind d cookie number node at linked above low = go (cookie == 0) (cookie == 1)
   where
     from : (n : ℕ) → n ≤ number → Contains (files_from d n) (file_entry (number, node))
@@ -244,7 +244,7 @@ file_behind d cookie number node at linked above low = go (cookie == 0) (cookie 
     go false true = behind_head dots (files_from d 2) (file_entry (number, node)) (from 2 (omega (arith, above)))
     go false false = from cookie low
 
-only_behind : (d : Listing) (cookie : ℕ) (x : Dirent) → Contains (entries_behind d cookie) x
+only_behind : (d : Listing) (cookie : ℕ) (x : Dirent) → Contains (entries_behind d 1 cookie) x
     → Contains root_entries x ⊎ IsFileIn (entries d.nodes) x
 only_behind d cookie x h = go (cookie == 0) (cookie == 1) h
   where
@@ -304,10 +304,10 @@ record IsAmong (Q : Dirent → Type 0) (cookie : ℕ) (xs : List Dirent) : Type 
 
 -- the same of whatever a call lists behind a lower cookie
 abbrev IsBehind : (Dirent → Type 0) → ℕ → Call → Type 0
-IsBehind Q cookie c = (from : ℕ) → from < cookie → IsAmong Q cookie (entries_behind c.directory from)
+IsBehind Q cookie c = (from : ℕ) → from < cookie → IsAmong Q cookie (entries_behind c.directory 1 from)
 
 told_before_end : (Q : Dirent → Type 0) (cookie from : ℕ) (calls : List Call) (last : Call)
-    → AreCalls from (calls ++ last ∷ []) → entries_behind last.directory last.cookie ≡ [] → from < cookie
+    → AreCalls from (calls ++ last ∷ []) → entries_behind last.directory 1 last.cookie ≡ [] → from < cookie
     → AllByRecursion (IsBehind Q cookie) (calls ++ last ∷ []) → IsAmong Q cookie (told_by calls)
 told_before_end Q cookie from [] last are done less has =
     let e = has.0 last.cookie (subst (λ n. n < cookie) (sym are.0) less) in
@@ -360,11 +360,11 @@ all_told calls last number all above linked =
     (contains_mapped (λ (e : Dirent). e.node) (told_by calls) e.entry e.among)
 
 root_behind : (x : Dirent) (cookie : ℕ) (c : Call) → x.cookie ≡ cookie
-    → ((from : ℕ) → from < cookie → Contains (entries_behind c.directory from) x) → IsBehind (λ e. e ≡ x) cookie c
+    → ((from : ℕ) → from < cookie → Contains (entries_behind c.directory 1 from) x) → IsBehind (λ e. e ≡ x) cookie c
 root_behind x cookie c at has = λ from less. record { entry = x; at = at; among = has from less; so = refl }
 
 one_root : (x : Dirent) (cookie : ℕ) (calls : List Call) (last : Call) → ListAll calls last → 0 < cookie
-    → x.cookie ≡ cookie → ((d : Listing) (from : ℕ) → from < cookie → Contains (entries_behind d from) x)
+    → x.cookie ≡ cookie → ((d : Listing) (from : ℕ) → from < cookie → Contains (entries_behind d 1 from) x)
     → Contains (told_by calls) x
 one_root x cookie calls last all above at has =
     let Q : Dirent → Type 0 = λ e. e ≡ x in
@@ -373,12 +373,12 @@ one_root x cookie calls last all above at has =
     let e = told_before_end Q cookie 0 calls last all.are all.end above each in
     subst (Contains (told_by calls)) e.so e.among
 
-dot_behind : (d : Listing) (from : ℕ) → from < 1 → Contains (entries_behind d from) dot
+dot_behind : (d : Listing) (from : ℕ) → from < 1 → Contains (entries_behind d 1 from) dot
 dot_behind d from less =
     let none : 0 ≡ from = omega (arith, less) in
-    subst (λ n. Contains (entries_behind d n) dot) none (at_head dot (dots ∷ files_from d 2))
+    subst (λ n. Contains (entries_behind d 1 n) dot) none (at_head dot (dots ∷ files_from d 2))
 
-dots_behind : (d : Listing) (from : ℕ) → from < 2 → Contains (entries_behind d from) dots
+dots_behind : (d : Listing) (from : ℕ) → from < 2 → Contains (entries_behind d 1 from) dots
 dots_behind d from less = go (from == 0) refl (from == 1) refl
   where
     go : (a : Bool) → (from == 0) ≡ a → (b : Bool) → (from == 1) ≡ b → Contains (behind a b d from) dots
@@ -454,9 +454,9 @@ cut most (e ∷ rest) = go (nat_lt most (length (dirent_bytes e))) refl (cut (mo
           ∙ ap (λ l. dirent_bytes e ++ l) more.body;
     }
 
-pub answered : (d : Listing) (cookie most : ℕ) → IsAnswered d cookie (fitting most (entries_behind d cookie))
+pub answered : (d : Listing) (cookie most : ℕ) → IsAnswered d cookie (fitting most (entries_behind d 1 cookie))
 answered d cookie most =
-    let part = cut most (entries_behind d cookie) in
+    let part = cut most (entries_behind d 1 cookie) in
     record {
       call = record { directory = d; cookie = cookie; told = part.told; left = part.left; are = part.are };
       there = refl;
@@ -501,7 +501,7 @@ none_fits most (e ∷ rest) short none =
     absurd (omega (arith, long, length-append bytes more, entry_some e))
 
 pub none_left : (d : Listing) (cookie most : ℕ) → HasShortNames d → 280 ≤ most
-    → fitting most (entries_behind d cookie) ≡ [] → entries_behind d cookie ≡ []
+    → fitting most (entries_behind d 1 cookie) ≡ [] → entries_behind d 1 cookie ≡ []
 none_left d cookie most short room none =
-    none_fits most (entries_behind d cookie)
+    none_fits most (entries_behind d 1 cookie)
     (λ x has. omega (arith, room, entry_short x (name_short d x short (only_behind d cookie x has)))) none

@@ -1,4 +1,5 @@
 -- The lines of a session can be read back from their text.
+use Rattle.std.specs.Prelude.{◌&&◌, not, Err}
 use Rattle.std.proofs.Common.{◌≡◌, Bool, true, false, if◌then◌else◌, List, [], ◌∷◌, All, map, refl, arith}
 use Rattle.std.proofs.lemmas.List.Elements.{All-append, All-cons, All-head, All-nil, All-tail}
 use Rattle.fl_core.specs.Step.{replies_in}
@@ -7,13 +8,15 @@ use Rattle.fl_desk.specs.Legal.{IsLegal, nothing, step}
 use Rattle.fl_desk.specs.Replay.{state_after}
 use Rattle.fl_history.specs.declared.history.Line.TheVariants as line
 use Rattle.fl_order.specs.Sayable.{IsSayable}
+use Rattle.fl_order.specs.declared.errno.Errno.TheVariants.{ENOSYS}
 use Rattle.fl_order.specs.declared.order.Order.{Order}
+use Rattle.fl_order.specs.declared.refusal.Refusal.TheVariants.{Answer}
 use Rattle.fl_order.specs.declared.told.Told.{Told}
 use Rattle.fl_session.specs.Again.{unmarked}
 use Rattle.fl_session.specs.Once.{orders_in}
 use Rattle.fl_session.specs.Session.{Came, Session, opening_session, session_from, session_of, with_either, with_incoming, with_message}
 use Rattle.fl_session.specs.Session.{with_order, with_orders}
-use Rattle.fl_transport.specs.Handshake.{advanced, incoming_by, incoming_of, own_answer}
+use Rattle.fl_transport.specs.Handshake.{advanced, incoming_by, incoming_of, own_answer, said_to}
 use Rattle.fl_transport.specs.declared.handshake.Incoming.{Incoming}
 use Rattle.fl_transport.specs.declared.handshake.Incoming.TheVariants as incoming
 use Rattle.fl_order.specs.OpKind.{kind_of_opcode}
@@ -21,6 +24,7 @@ use Rattle.fl_trace.specs.Text.{Fits}
 use Rattle.fl_waiting.specs.declared.rules.Rules.{Rules}
 use Rattle.fl_wire.specs.Layout.{opcode_of, unique_of}
 use Rattle.fl_wire.specs.Says.{said}
+use Rattle.fl_wire.specs.Whole.{is_for_whole}
 use Rattle.lockd_serve.specs.Said.{CanBeSaid}
 use Rattle.lockd_serve.proofs.Histories.{AskedFits, TellsEach, legal_fits}
 use Rattle.lockd_serve.proofs.Steps.{IsNamed, LastCounts}
@@ -65,23 +69,28 @@ incoming_fits s refused (incoming.Response response) said fits =
 message_fits : (s : Session) (c : Came) → CanBeSaid c → SessionFits s → SessionFits (with_message s c)
 message_fits s c can fits = go s.handshake.over
   where
-    orders : (b : Bool) → All IsSayable (orders_in (if b then incoming_by c.message (said c.message)
+    taken : (unknown : Bool)
+        → All IsSayable (orders_in (incoming_by c.message (if unknown then Err (Answer ENOSYS) else said c.message)))
+    taken true = All-nil IsSayable
+    taken false = can
+
+    orders : (b : Bool) → All IsSayable (orders_in (if b then incoming_by c.message (said_to s.rules.whole c.message)
         else incoming.Response (own_answer c.message (kind_of_opcode (opcode_of c.message)))))
-    orders true = can
+    orders true = taken (not s.rules.whole && is_for_whole c.message)
     orders false = All-nil IsSayable
 
     either : (b : Bool) → b ≡ false
         → SessionFits (with_either (record s { handshake = advanced s.handshake c.message })
-        (unmarked b (unique_of c.message)) c.refused (incoming_of s.handshake c.message))
+        (unmarked b (unique_of c.message)) c.refused (incoming_of s.rules.whole s.handshake c.message))
     either true e = absurd (cc e)
     either false e =
         incoming_fits (record s { handshake = advanced s.handshake c.message }) c.refused
-        (incoming_of s.handshake c.message) (orders s.handshake.agreed)
+        (incoming_of s.rules.whole s.handshake c.message) (orders s.handshake.agreed)
         (record { legal = fits.legal; asked = fits.asked; plain = fits.plain })
 
     go : (b : Bool)
         → SessionFits (if b then s else with_either (record s { handshake = advanced s.handshake c.message })
-        (unmarked s.resends (unique_of c.message)) c.refused (incoming_of s.handshake c.message))
+        (unmarked s.resends (unique_of c.message)) c.refused (incoming_of s.rules.whole s.handshake c.message))
     go true = fits
     go false = either s.resends fits.plain
 

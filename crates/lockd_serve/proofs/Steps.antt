@@ -26,7 +26,7 @@ use Rattle.fl_order.specs.declared.errno.Errno.TheVariants.{EAGAIN, EBADF, EDEAD
 use Rattle.fl_order.specs.declared.order.LockAsk.{LockAsk}
 use Rattle.fl_order.specs.declared.order.Op.{Op}
 use Rattle.fl_order.specs.declared.order.Op.TheVariants.{Lookup, Forget, Getattr, Unlink, Open, Release, Flush, Create, Getlk, Setlk}
-use Rattle.fl_order.specs.declared.order.Op.TheVariants.{Setlkw, Interrupt}
+use Rattle.fl_order.specs.declared.order.Op.TheVariants.{Setlkw, Interrupt, Mknod, Mkdir, Rmdir}
 use Rattle.fl_order.specs.declared.order.Order.{Order}
 use Rattle.fl_order.specs.declared.told.Answer.{Answer}
 use Rattle.fl_order.specs.declared.told.Answer.TheVariants.{Done}
@@ -46,8 +46,8 @@ use Rattle.fl_waiting.specs.Circle.{is_deadlock}
 use Rattle.fl_waiting.specs.declared.parked.Request.{Request}
 use Rattle.fl_waiting.specs.declared.rules.Rules.{Rules}
 use Rattle.lockd_serve.proofs.Listings.{ListingFits, SitsAnswer, SitsResult, SitsTold, after_close_fits, after_create_fits, after_forget_fits, after_lookup_fits}
-use Rattle.lockd_serve.proofs.Listings.{after_open_fits, after_unlink_fits, create_sits, getattr_sits, lookup_sits, open_sits, sits_if, sits_unless}
-use Rattle.lockd_serve.proofs.Listings.{unlink_sits}
+use Rattle.lockd_serve.proofs.Listings.{after_mkdir_fits, after_mknod_fits, after_open_fits, after_unlink_fits, create_sits, getattr_sits, lookup_sits}
+use Rattle.lockd_serve.proofs.Listings.{mkdir_sits, mknod_sits, open_sits, rmdir_sits, sits_if, sits_unless, unlink_sits}
 
 -- ---- what is there
 
@@ -122,7 +122,10 @@ module _ (order : Order) (said : IsSayable order) where
   locks_fit (Lookup name) reply d fits = none_change
   locks_fit (Forget n) reply d fits = none_change
   locks_fit Getattr reply d fits = none_change
+  locks_fit (Mknod mode name) reply d fits = none_change
+  locks_fit (Mkdir mode name) reply d fits = none_change
   locks_fit (Unlink name) reply d fits = none_change
+  locks_fit (Rmdir name) reply d fits = none_change
   locks_fit Open reply d fits = none_change
   locks_fit (Create excl mode name) reply d fits = none_change
   locks_fit (Getlk ask) reply d fits = none_change
@@ -131,7 +134,12 @@ module _ (order : Order) (said : IsSayable order) where
   listing_fits : (op : Op) (reply : Result Answer Errno) (d : Listing) → ListingFits d → SitsResult reply
       → ListingFits (listing_answered order op reply d)
   listing_fits (Lookup name) reply d fits sits = after_lookup_fits d fits reply
+  listing_fits (Mknod mode name) reply d fits sits =
+      after_mknod_fits d fits order.uid order.gid mode name reply said.uid said.gid sits
+  listing_fits (Mkdir mode name) reply d fits sits =
+      after_mkdir_fits d fits order.uid order.gid mode name reply said.uid said.gid sits
   listing_fits (Unlink name) reply d fits sits = after_unlink_fits d fits name reply
+  listing_fits (Rmdir name) reply d fits sits = after_unlink_fits d fits name reply
   listing_fits Open reply d fits sits = after_open_fits d fits order.node reply sits
   listing_fits (Release fh unlocks owner) reply d fits sits = after_close_fits d fits order.node fh reply
   listing_fits (Create excl mode name) reply d fits sits =
@@ -147,7 +155,10 @@ module _ (order : Order) (said : IsSayable order) where
   forgotten_fits : (op : Op) (d : Listing) → ListingFits d → ListingFits (listing_unanswered order op d)
   forgotten_fits (Forget n) d fits = after_forget_fits d fits order.node n
   forgotten_fits (Lookup name) d fits = fits
+  forgotten_fits (Mknod mode name) d fits = fits
+  forgotten_fits (Mkdir mode name) d fits = fits
   forgotten_fits (Unlink name) d fits = fits
+  forgotten_fits (Rmdir name) d fits = fits
   forgotten_fits Open d fits = fits
   forgotten_fits (Release fh unlocks owner) d fits = fits
   forgotten_fits (Create excl mode name) d fits = fits
@@ -165,7 +176,10 @@ module _ (order : Order) (said : IsSayable order) where
   parked_fits (Lookup name) parked own fits = fits
   parked_fits (Forget n) parked own fits = fits
   parked_fits Getattr parked own fits = fits
+  parked_fits (Mknod mode name) parked own fits = fits
+  parked_fits (Mkdir mode name) parked own fits = fits
   parked_fits (Unlink name) parked own fits = fits
+  parked_fits (Rmdir name) parked own fits = fits
   parked_fits Open parked own fits = fits
   parked_fits (Release fh unlocks owner) parked own fits = fits
   parked_fits (Flush fh owner) parked own fits = fits
@@ -310,7 +324,10 @@ taken_sits : (op : Op) → IfSome (taken_reply op) SitsResult
 taken_sits (Forget n) = tt
 taken_sits (Lookup name) = tt
 taken_sits Getattr = tt
+taken_sits (Mknod mode name) = tt
+taken_sits (Mkdir mode name) = tt
 taken_sits (Unlink name) = tt
+taken_sits (Rmdir name) = tt
 taken_sits Open = tt
 taken_sits (Release fh unlocks owner) = tt
 taken_sits (Flush fh owner) = tt
@@ -474,7 +491,12 @@ module _ (last : LastCounts) (named : IsNamed) where
     reply_sits (Interrupt unique) own = sits_some (is_parked unique s.view.parked) None (Some (Err EAGAIN)) tt tt
     reply_sits (Lookup name) own = lookup_sits s.view.directory fits.view.directory order.node name
     reply_sits Getattr own = getattr_sits s.view.directory fits.view.directory order.node
+    reply_sits (Mknod mode name) own =
+        mknod_sits s.view.directory fits.view.directory order.node order.uid order.gid mode name said.uid said.gid
+    reply_sits (Mkdir mode name) own =
+        mkdir_sits s.view.directory fits.view.directory order.node order.uid order.gid mode name said.uid said.gid
     reply_sits (Unlink name) own = unlink_sits s.view.directory fits.view.directory order.node name
+    reply_sits (Rmdir name) own = rmdir_sits s.view.directory fits.view.directory order.node name
     reply_sits Open own = open_sits s.view.directory fits.view.directory order.node
     reply_sits (Create excl mode name) own =
         create_sits s.view.directory fits.view.directory order.node order.uid order.gid excl mode name said.uid said.gid
@@ -504,7 +526,10 @@ module _ (last : LastCounts) (named : IsNamed) where
     ended_sit (Lookup name) own = All-nil SitsTold
     ended_sit (Forget n) own = All-nil SitsTold
     ended_sit Getattr own = All-nil SitsTold
+    ended_sit (Mknod mode name) own = All-nil SitsTold
+    ended_sit (Mkdir mode name) own = All-nil SitsTold
     ended_sit (Unlink name) own = All-nil SitsTold
+    ended_sit (Rmdir name) own = All-nil SitsTold
     ended_sit Open own = All-nil SitsTold
     ended_sit (Flush fh owner) own = All-nil SitsTold
     ended_sit (Create excl mode name) own = All-nil SitsTold

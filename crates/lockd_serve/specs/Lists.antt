@@ -1,5 +1,5 @@
--- What a client is told that lists the directory of a whole session by several READDIRs (Linux `fuse.h`, protocol
--- 7.31), while files may be made and unlinked between them.
+-- What a client is told that lists the root of a whole session, whose number is 1, by several READDIRs (Linux `fuse.h`,
+-- protocol 7.31), while files and folders may be made and unlinked between them.
 use Rattle.std.specs.Prelude.{◌≡◌, ℕ, ◌<◌, ◌≤◌, true, List, [], ◌∷◌, ◌++◌, length, Contains, flat_map, map, Some}
 use Rattle.std.specs.List.{AllByRecursion}
 use Rattle.std.specs.FinMap.{get}
@@ -9,16 +9,17 @@ use Rattle.fl_dir.specs.declared.node.Node.{Node}
 use Rattle.fl_wire.specs.Listing.{Dirent, dirent_bytes}
 use Rattle.fl_session.specs.Whole.{entries_behind, file_entry, root_entry}
 
--- One READDIR: the directory that is there when it comes, the cookie behind which its list begins, the entries that its
--- reply has, and those for which the reply has no room.
+-- One READDIR of the root: the directory that is there when it comes, the cookie behind which its list begins, the
+-- entries that its reply has, and those for which the reply has no room.
 pub record Call : Type 0 where
   pub directory : Listing
   pub cookie : ℕ
   pub told : List Dirent
   pub left : List Dirent
-  pub are : entries_behind directory cookie ≡ told ++ left
+  pub are : entries_behind directory 1 cookie ≡ told ++ left
 
--- These bytes answer a READDIR that comes when this directory is there, and asks for what is behind this cookie.
+-- These bytes answer a READDIR of the root that comes when this directory is there, and asks for what is behind this
+-- cookie.
 pub record IsAnswered (d : Listing) (cookie : ℕ) (body : List ℕ) : Type 0 where
   pub call : Call
   pub there : call.directory ≡ d
@@ -42,7 +43,7 @@ AreCalls cookie (c ∷ rest) = (c.cookie ≡ cookie) × AreCalls (last_cookie co
 -- These calls list all: the first begins at the beginning, and one more call, the last, finds nothing more.
 pub record ListAll (calls : List Call) (last : Call) : Type 0 where
   pub are : AreCalls 0 (calls ++ last ∷ [])
-  pub end : entries_behind last.directory last.cookie ≡ []
+  pub end : entries_behind last.directory 1 last.cookie ≡ []
 
 -- the entries that these calls told, in order
 abbrev pub told_by : List Call → List Dirent
@@ -57,7 +58,7 @@ abbrev pub AreRising : ℕ → List Dirent → Type 0
 AreRising cookie [] = Unit {0}
 AreRising cookie (e ∷ rest) = (cookie < e.cookie) × AreRising e.cookie rest
 
--- the file of this number is linked whenever one of the calls comes
+-- the file or folder of this number is linked whenever one of the calls comes
 abbrev pub IsLinkedThroughout : ℕ → List Call → Type 0
 IsLinkedThroughout number calls = AllByRecursion (λ (c : Call). is_linked_at c.directory number ≡ true) calls
 
@@ -65,7 +66,7 @@ IsLinkedThroughout number calls = AllByRecursion (λ (c : Call). is_linked_at c.
 abbrev pub root_entries : List Dirent
 root_entries = root_entry 1 (46 ∷ []) ∷ root_entry 2 (46 ∷ 46 ∷ []) ∷ []
 
--- One of the calls tells this entry, and it is that of a file that is linked when the call comes.
+-- One of the calls tells this entry, and it is that of a file or folder that is linked when the call comes.
 pub record IsOfFile (calls : List Call) (e : Dirent) : Type 0 where
   pub call : Call
   pub called : Contains calls call

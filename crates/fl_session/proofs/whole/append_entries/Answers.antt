@@ -16,8 +16,8 @@ loop-entry-preserved c =
     ap length now ∙ length-append old (dirent_bytes e) in
     record {
       within = omega (arith, long, fits);
-      rest = one_more c.args.most old c.append_dirent.new.self e (entries_behind d c.loop-entry.at)
-          (entries_behind d c.in-Some.entry.cookie) c.in-Some.ensures.some now fits ∙ c.loop-entry.invariant.rest;
+      rest = one_more c.args.most old c.append_dirent.new.self e (entries_behind d c.args.node c.loop-entry.at)
+          (entries_behind d c.args.node c.in-Some.entry.cookie) c.in-Some.ensures.some now fits ∙ c.loop-entry.invariant.rest;
     }
 
 pub loop-entry-smaller : goal.loop-entry-smaller

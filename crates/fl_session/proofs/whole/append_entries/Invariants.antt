@@ -7,8 +7,8 @@ use Rattle.fl_session.proofs.whole.append_entries.Given as goal
 abbrev pub invariant-loop-entry : goal.invariant-loop-entry
 invariant-loop-entry l = record {
   within : length l.replies ≤ 16 + l.most;
-  rest : with_left l.most l.replies (entries_behind l.directory l.at)
-      ≡ with_left l.most l.initial.replies (entries_behind l.directory l.cookie);
+  rest : with_left l.most l.replies (entries_behind l.directory l.node l.at)
+      ≡ with_left l.most l.initial.replies (entries_behind l.directory l.node l.cookie);
 }
 
 abbrev pub decreases-loop-entry : goal.decreases-loop-entry

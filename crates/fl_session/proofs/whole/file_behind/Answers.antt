@@ -13,4 +13,4 @@ returns-in-Some-clause-some c =
     let number = c.in-Some.number in
     let node = c.in-Some.node.now in
     first_file d c.args.cookie number node c.requires c.in-Some.ensures.rest
-    ∙ ap (λ name. dirent_of number (number + 1) node.mode name ∷ entries_behind d (number + 1)) (sym c.as_bytes.ensures.bytes)
+    ∙ ap (λ name. dirent_of number (number + 1) node.mode name ∷ entries_behind d 1 (number + 1)) (sym c.as_bytes.ensures.bytes)

@@ -1,5 +1,5 @@
 use Rattle.std.proofs.Common.{rules, refl, ◌++◌, ◌∙◌, [], sym, subst, arith, ap, length, inl}
-use Rattle.std.specs.Prelude.{Bool}
+use Rattle.std.specs.Prelude.{Bool, false}
 use Rattle.fl_transport.specs.Ending.{IsEnding}
 use Rattle.fl_transport.specs.Handshake.{incoming_of}
 use Rattle.fl_transport.specs.Said.{orders_in}
@@ -26,7 +26,7 @@ loop-receiver-preserved-in-Whole g c =
       bounded = omega (arith, c.skip.ensures.shorter, c.loop-receiver.invariant.bounded);
       same = search rules;
       came = (
-        came.0 ++ orders_in (incoming_of c.loop-receiver.receiver.handshake c.in-Whole.frame),
+        came.0 ++ orders_in (incoming_of false c.loop-receiver.receiver.handshake c.in-Whole.frame),
         c.receive.ensures.dispatched.dispatched _ _ came.1,
         receiving_more _ _ _ _ c.in-Whole.frame _ _ came.2 refl refl refl c.loop-receiver-test.true
             (c.skip.ensures.taken c.in-Whole.frame (sym c.next.ensures ∙ c.in-Whole.is) c.as_bytes-len.ensures.message)
