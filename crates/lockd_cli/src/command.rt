@@ -194,7 +194,7 @@ const RULES: &[Argument] = &[
     },
     Argument {
         name: "whole",
-        help: "With one worker: a session also answers READDIR, STATFS and READ, and rejects RENAME, LINK, SYMLINK and WRITE with errors of their own; otherwise, all are ENOSYS",
+        help: "With one worker: a session also takes MKNOD, MKDIR and RMDIR, answers READDIR, STATFS and READ, and rejects RENAME, LINK, SYMLINK and WRITE with errors of their own; otherwise, all are ENOSYS",
         kind: Kind::Flag(None),
         conflicts_with: &[],
     },
@@ -212,7 +212,7 @@ const RULES: &[Argument] = &[
     },
     Argument {
         name: "files",
-        help: "How many files there may be, 1 to 65536; 256, if not said",
+        help: "How many files and folders there may be, 1 to 65536; 256, if not said",
         kind: Kind::Between("N", 1, MOST_FILES as i64),
         conflicts_with: &[],
     },
