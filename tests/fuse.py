@@ -6,14 +6,17 @@ message: `uid`, `gid`, `pid`. A message is of node 2 and fh 1 by default, which 
 """
 import struct
 from errno import (  # noqa: F401: tests take them from here, beside the opcodes.
-    EAGAIN, EBADF, EDEADLK, EEXIST, EFBIG, EINTR, EINVAL, ENAMETOOLONG, ENFILE, ENOENT, ENOLCK, ENOMEM, ENOSPC, ENOSYS, ENOTDIR, EOPNOTSUPP, EPERM, EPROTO)
+    EAGAIN, EBADF, EDEADLK, EEXIST, EFBIG, EINTR, EINVAL, EISDIR, ENAMETOOLONG, ENFILE, ENOENT, ENOLCK, ENOMEM, ENOSPC, ENOSYS, ENOTDIR, EOPNOTSUPP, EPERM,
+    EPROTO)
 
 LOOKUP, FORGET, GETATTR, SETATTR, UNLINK, OPEN, READ, RELEASE, FLUSH, INIT = 1, 2, 3, 4, 10, 14, 15, 18, 25, 26
-SYMLINK, RENAME, LINK, WRITE, STATFS, READDIR, RENAME2 = 6, 12, 13, 16, 17, 28, 45
+SYMLINK, MKNOD, MKDIR, RMDIR, RENAME, LINK, WRITE, STATFS, READDIR, RENAME2 = 6, 8, 9, 11, 12, 13, 16, 17, 28, 45
 GETLK, SETLK, SETLKW, CREATE, INTERRUPT, DESTROY, BATCH_FORGET = 31, 32, 33, 35, 36, 38, 42
 # How long the body of each order is before its name, and whether a name follows. The pairs of a BATCH_FORGET follow, too.
 BODIES = {LOOKUP: (0, True), FORGET: (8, False), GETATTR: (16, False), UNLINK: (0, True), OPEN: (8, False), RELEASE: (24, False), FLUSH: (24, False),
           GETLK: (48, False), SETLK: (48, False), SETLKW: (48, False), CREATE: (16, True), INTERRUPT: (8, False), BATCH_FORGET: (8, False)}
+# The same of those that whole sessions alone take as orders.
+WHOLE_BODIES = {MKNOD: (16, True), MKDIR: (8, True), RMDIR: (0, True)}
 # The messages that get no reply of their own. An INTERRUPT gets one only if no request of that unique waits.
 NO_REPLY = FORGET, BATCH_FORGET
 MAJOR, MINOR = 7, 31
@@ -24,7 +27,9 @@ READ_LOCK, WRITE_LOCK, NO_LOCK = 0, 1, 2
 # The last byte that a lock can have, and the greatest number of 64 bits.
 LAST_BYTE, LAST = 2**63 - 1, 2**64 - 1
 # A flag of a lock's body: it is one of flock(2). A flag of a RELEASE: it drops that of its owner. `O_EXCL` is a flag of a CREATE.
-LK_FLOCK, RELEASE_FLOCK_UNLOCK, O_EXCL, S_IFREG = 1, 2, 0o200, 0o100000
+LK_FLOCK, RELEASE_FLOCK_UNLOCK, O_EXCL = 1, 2, 0o200
+# The bits of a mode that say the file type, and two of these types.
+S_IFMT, S_IFREG, S_IFDIR = 0o170000, 0o100000, 0o40000
 # What a server says in its reply to an INIT: it has locks of both classes.
 POSIX_LOCKS, FLOCK_LOCKS = 1 << 1, 1 << 10
 # The bit of a unique that marks a message as sent again.
@@ -48,6 +53,16 @@ def name_body(name):
 
 def create_body(name, mode=0o644, flags=0):
     return struct.pack("<IIII", flags, mode, 0, 0) + name_body(name)
+
+
+def mknod_body(name, mode=S_IFREG | 0o644):
+    """`struct fuse_mknod_in`, with a umask, and the name."""
+    return struct.pack("<IIII", mode, 0, 0o22, 0) + name_body(name)
+
+
+def mkdir_body(name, mode=0o755):
+    """`struct fuse_mkdir_in`, with a umask, and the name."""
+    return struct.pack("<II", mode, 0o22) + name_body(name)
 
 
 def open_body():
@@ -111,6 +126,18 @@ def lookup(unique, name=b"a", **who):
 
 def unlink(unique, name=b"a", **who):
     return message(UNLINK, unique, 1, name_body(name), **who)
+
+
+def mknod(unique, name=b"a", mode=S_IFREG | 0o644, node=1, **who):
+    return message(MKNOD, unique, node, mknod_body(name, mode), **who)
+
+
+def mkdir(unique, name=b"a", mode=0o755, node=1, **who):
+    return message(MKDIR, unique, node, mkdir_body(name, mode), **who)
+
+
+def rmdir(unique, name=b"a", node=1, **who):
+    return message(RMDIR, unique, node, name_body(name), **who)
 
 
 def open_(unique, node=2, **who):
@@ -196,7 +223,7 @@ def opened_body(fh):
 
 
 def entry_reply(unique, node, *what):
-    """To a LOOKUP."""
+    """To a LOOKUP, a MKNOD or a MKDIR."""
     return reply(unique, body=entry_body(node, *what))
 
 

@@ -1,4 +1,4 @@
-"""The names of files, and which are open (Linux `fuse.h`: LOOKUP, CREATE, OPEN, UNLINK and RELEASE)."""
+"""The names of files and folders, and which are open (Linux `fuse.h`: LOOKUP, CREATE, MKNOD, MKDIR, OPEN, UNLINK, RMDIR and RELEASE)."""
 from collections import Counter
 
 

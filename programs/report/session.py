@@ -113,11 +113,11 @@ class Session:
         if op == "create" and reply.word == "made":
             self.files.name(body[2], reply.values[0])
             self.files.open_as(reply.values[-1], reply.values[0])
-        elif op == "lookup" and reply.word == "entry":
-            self.files.name(body[0], reply.values[0])
+        elif op in ("lookup", "mknod", "mkdir") and reply.word == "entry":
+            self.files.name(body[-1], reply.values[0])
         elif op == "open" and reply.word == "open":
             self.files.open_as(reply.values[0], order.node)
-        elif op == "unlink":
+        elif op in ("unlink", "rmdir"):
             self.files.unlink(body[0])
         elif op in ("setlk", "setlkw"):
             self.grant(order.at, wish_of(order))

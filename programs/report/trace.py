@@ -91,6 +91,7 @@ ATTRIBUTES = u64, u32, u32, u32, u32
 BODIES = {
     b"lookup": (name,), b"forget": (u64,), b"getattr": (), b"unlink": (name,), b"open": (), b"release": (u64, flag, u64), b"flush": (u64, u64),
     b"create": (flag, number(512), name), b"getlk": LOCK, b"setlk": LOCK, b"setlkw": LOCK, b"interrupt": (u64,),
+    b"mknod": (u32, name), b"mkdir": (u32, name), b"rmdir": (name,),
 }
 RESULTS = {
     b"ok": (), b"entry": ATTRIBUTES, b"attr": ATTRIBUTES, b"open": (u64,), b"made": (*ATTRIBUTES, u64), b"lock": (u64, u64, u32, u32), b"err": (error,),

@@ -26,7 +26,7 @@ class Files:
     """The files of a random script: where each name leads, and four that were opened last. It guesses what the program says."""
 
     def __init__(self, numbers):
-        self.numbers, self.nodes, self.names, self.fh, self.opened = numbers, 1, {}, 0, [(1, 2)] * 4
+        self.numbers, self.nodes, self.names, self.fh, self.opened, self.made = numbers, 1, {}, 0, [(1, 2)] * 4, None
 
     def open(self, node):
         self.fh += 1
@@ -42,8 +42,22 @@ class Files:
         self.open(self.names[name])
         return 1, f"create {excl} 420 {name}"
 
+    def of_folder(self):
+        """A folder of a third name comes or goes, or a file that isn't opened."""
+        kind = self.numbers.choice(["mkdir", "mkdir", "mknod", "rmdir", "rmdir", "unlink"])
+        if kind in ("mkdir", "mknod"):
+            if "63" not in self.names:
+                self.nodes += 1
+                self.names["63"], self.made = self.nodes, kind
+            return 1, f"mkdir {self.numbers.choice([493, 33188, 4516])} 63" if kind == "mkdir" else "mknod 33188 63"
+        if "63" in self.names and (self.made == "mkdir") == (kind == "rmdir"):
+            del self.names["63"]
+        return 1, f"{kind} 63"
+
     def of_name(self):
         below = self.numbers.randrange
+        if below(4) == 0:
+            return self.of_folder()
         name, kind = ("61", "62")[below(2)], below(8)
         if kind == 0:
             self.names.pop(name, None)

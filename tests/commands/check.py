@@ -44,7 +44,7 @@ def lines_of(begins, count):
 
 def try_good_lines():
     """An order stands at the front of its own trace as it was read. A reply is read, and is owed to nobody."""
-    orders, replies = lines_of("good orders", 24), lines_of("good replies", 24)
+    orders, replies = lines_of("good orders", 32), lines_of("good replies", 25)
     for line in orders:
         ran = run("script", text=line + b"\n")
         assert (ran.stdout[:len(line) + 1], ran.stderr, ran.returncode) == (line + b"\n", b"", 0), (line, ran)
@@ -57,7 +57,7 @@ def try_good_lines():
 
 def try_bad_lines():
     """Each is the first line, and the third behind two good ones. A bad line behind it makes no difference."""
-    good, bad = b"tell 1 ok\n", lines_of("bad ", 136)
+    good, bad = b"tell 1 ok\n", lines_of("bad ", 171)
     for line in bad:
         is_bad(line + b"\n" + good, 1)
         is_bad(good + good + line + b"\n" + good + b"\n", 3)

@@ -99,6 +99,42 @@ def try_a_file_without_a_name_keeps_its_place():
     assert parts_of(head)[1] == [b"file 1 2", b"file 2 3", b"node 2 1 0 33188 0 0 61", b"node 3 1 1 33152 0 0 61"], head
 
 
+def try_folders_in_a_head():
+    """A folder is a node with the mode of one, with its name or without. Behind the head it is one: it can't be opened, and can be removed."""
+    orders = [b"ask 0 1 1 5 6 0 mkdir 1023 64\n", b"ask 0 2 1 0 0 0 mkdir 448 65\n", b"ask 0 3 1 0 0 0 rmdir 65\n", b"ask 0 4 1 0 0 0 mknod 2468 66\n",
+              b"ask 0 5 1 0 0 0 lookup 64\n"]
+    head = said("state", text=said("script", text=b"".join(orders)))
+    assert parts_of(head) == (b"state 10 " + RULES + b" 5 1", [b"node 2 2 1 17407 5 6 64", b"node 3 1 0 16832 0 0 65", b"node 4 1 1 35236 0 0 66"], []), head
+    behind = b"""\
+ask 0 20 2 0 0 0 open
+tell 20 err 21
+ask 0 21 3 0 0 0 open
+tell 21 err 21
+ask 0 22 3 0 0 0 getattr
+tell 22 attr 3 16832 0 0 0
+ask 0 23 2 0 0 0 getattr
+tell 23 attr 2 17407 2 5 6
+ask 0 24 2 0 0 0 mkdir 511 67
+tell 24 err 1
+ask 0 25 2 0 0 0 lookup 67
+tell 25 err 2
+ask 0 26 1 0 0 0 unlink 64
+tell 26 err 21
+ask 0 27 1 0 0 0 mkdir 511 64
+tell 27 err 17
+ask 0 28 1 0 0 0 rmdir 66
+tell 28 err 20
+ask 0 29 1 0 0 0 rmdir 64
+tell 29 ok
+ask 0 30 1 0 0 0 mkdir 511 65
+tell 30 entry 5 16895 2 0 0
+"""
+    assert said("check", text=head + behind) == said("check", "--whole", text=head + behind) == b"legal\n", said("check", text=head + behind)
+    assert said("state", text=head) == head and said("locks", "--json", text=head + behind) == b"[]\n"
+    for one, other in (b"17407 5 6 64\n", b"33791 5 6 64\n"), (b"16832 0 0 65\n", b"33216 0 0 65\n"):
+        assert run("check", text=head.replace(one, other) + behind).returncode == 1, other
+
+
 def try_traces_that_have_no_head_behind_them():
     """One that isn't legal, lacks replies, has a bad line, or is cut off."""
     trace = said("script", text=b"ask 0 1 1 0 0 0 create 0 420 61\n")

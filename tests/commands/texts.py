@@ -147,7 +147,11 @@ flags past 2^32 - 1|ask 0 2 2 0 0 0 setlk 1 7 0 9 1 11 4294967296
 a seventeenth worker|ask 16 1 1 0 0 0 create 0 420 61
 a mode past octal 777|ask 0 1 1 0 0 0 create 0 512 61
 a flag that is no 0 or 1|ask 0 1 1 0 0 0 create 2 420 61
-an unknown order|ask 0 1 1 0 0 0 mkdir 0 420 61
+an unknown order|ask 0 1 1 0 0 0 symlink 0 420 61
+a mode past 2^32 - 1|ask 0 1 1 0 0 0 mkdir 4294967296 61
+a file that is made without a mode|ask 0 1 1 0 0 0 mknod 61
+a flag before a mode|ask 0 1 1 0 0 0 mkdir 0 420 61
+a mode of a name that goes|ask 0 1 1 0 0 0 rmdir 0 61
 a message that is no order|ask 0 1 1 0 0 0 destroy
 an order that isn't taken|ask 0 2 2 0 0 0 setlkw 1 7 0 9 1 11
 an order in upper case|ask 0 1 1 0 0 0 CREATE 0 420 61
@@ -313,6 +317,17 @@ ask 0 1 1 0 0 0 lookup 61 6A|what stands behind lookup doesn't fit: see docs/TRA
 ask 0 1 1 0 0 0 create 2 420 61|2 is too great: the most is 1
 ask 0 1 1 0 0 0 create 0 512 61|512 is too great: the most is 511
 ask 0 1 1 0 0 0 create 0 rw 61|rw is no number
+ask 0 1 1 0 0 0 mkdir 4294967296 61|4294967296 is too great: the most is 4294967295
+ask 0 1 1 0 0 0 mknod 4294967296 61|4294967296 is too great: the most is 4294967295
+ask 0 1 1 0 0 0 mkdir 0493 61|0493 has a zero in front
+ask 0 1 1 0 0 0 mkdir rwx 61|rwx is no number
+ask 0 1 1 0 0 0 mkdir 493 6A|the name of a file is written in lower case hex
+ask 0 1 1 0 0 0 mknod 33188 6A|the name of a file is written in lower case hex
+ask 0 1 1 0 0 0 rmdir 6A|the name of a file is written in lower case hex
+ask 0 1 1 0 0 0 mknod 33188|what stands behind mknod doesn't fit: see docs/TRACE.md
+ask 0 1 1 0 0 0 mkdir 493 616|what stands behind mkdir doesn't fit: see docs/TRACE.md
+ask 0 1 1 0 0 0 rmdir 0 61|what stands behind rmdir doesn't fit: see docs/TRACE.md
+ask 0 1 1 0 0 0 symlink 61 62|no order is named symlink
 |it is empty
 """
     for row in rows.strip("\n").split("\n"):

@@ -113,6 +113,18 @@ def try_names_that_come_again():
     same(follow(trace).files.label(5), "b")
 
 
+def try_names_of_folders():
+    """MKNOD and MKDIR name a node, if they aren't refused, and RMDIR takes a name away. What is refused stands in the table of errors."""
+    trace, session = followed("".join(f"ask 0 {row}\n" for row in (
+        "1 1 0 0 0 mkdir 493 64", "2 1 0 0 0 mknod 33188 66", "3 1 0 0 0 mkdir 493 66", "4 2 0 0 0 mknod 33188 67", "5 1 0 0 0 mknod 4516 70", "6 1 0 0 0 rmdir 66",
+        "7 3 0 0 0 open", "8 3 0 0 0 setlk 1 7 0 9 1 11 0", "9 1 0 0 0 rmdir 64", "10 1 0 0 0 mkdir 448 64")))
+    files = session.files
+    same([(files.label(it), files.is_unlinked(it)) for it in (2, 3, 4, 5)], [("d", True), ("f", False), ("d", False), ("node 5", False)])
+    same([row[:3] for row in table(session, "Refused requests by error")], [["EPERM", "mknod", "2"], ["EEXIST", "mkdir", "1"], ["ENOTDIR", "rmdir", "1"]])
+    same(held(session), [(7, "0-9", "w", 8, 11)])
+    same([(it.op, it.body) for it in trace.orders[:2]], [("mkdir", [0o755, b"d"]), ("mknod", [0o100644, b"f"])])
+
+
 def try_an_order_with_the_unique_of_a_waiter():
     waits_as_3 = locks("setlk 1 7 0 0 1 11 0", "setlkw 1 8 0 0 1 12 0")
     _, session = followed(waits_as_3 + "ask 0 3 2 0 0 0 setlk 1 9 5 5 1 13 0\nask 0 4 2 0 0 0 setlk 1 7 0 0 2 11 0\n")

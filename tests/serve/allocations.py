@@ -51,6 +51,16 @@ def locks():
     return {2: CREATE, **{unique: setlk(unique) for unique in range(3, 4_200)}}
 
 
+def folders():
+    """Some thousand folders and files that are made and removed, and some that can't be."""
+    orders = {}
+    for first in range(2, 2_802, 7):
+        name, node = b"%d" % first, 2 + 2 * (first // 7)
+        orders |= enumerate([fuse.mkdir(first, name), fuse.mknod(first + 1, b"f"), fuse.mkdir(first + 2, name), fuse.unlink(first + 3, b"f"),
+                             fuse.rmdir(first + 4, name), fuse.forget(first + 5, node), fuse.forget(first + 6, node + 1)], first)
+    return orders
+
+
 def talk(server, orders):
     """All replies to an INIT and these orders, sent without waiting for any; none where the server is gone."""
     try:
@@ -94,9 +104,9 @@ def is_served(orders, trace, found, before=b""):
     return len(orders) - len(taken)
 
 
-def serve(orders, workers, number):
+def serve(orders, workers, number, *options):
     """Says how many orders were refused; none where it ended with no memory, having answered nobody."""
-    server = Server(workers=workers, env=refusing(number))
+    server = Server(*options, workers=workers, env=refusing(number))
     found = talk(server, orders)
     printed, told, status = server.ended()
     if (printed, told, status) == (b"", "no memory\n", 2):
@@ -108,9 +118,9 @@ def serve(orders, workers, number):
     return refused
 
 
-def serve_each(orders, workers):
-    assert serve(orders, workers, 0) == 0
-    came = [serve(orders, workers, number) for number in range(1, asked() + 1)]
+def serve_each(orders, workers, *options):
+    assert serve(orders, workers, 0, *options) == 0
+    came = [serve(orders, workers, number, *options) for number in range(1, asked() + 1)]
     assert None in came and 1 in came, came
     return f"{len(came)} refused: {came.count(None)} ended with no memory, {came.count(1)} refused an order"
 
@@ -118,6 +128,11 @@ def serve_each(orders, workers):
 def try_a_desk_of_thousands():
     """One worker is one thread, and takes orders at a desk of its own."""
     return serve_each(locks(), 1)
+
+
+def try_a_whole_session_of_thousands():
+    """With a folder that is refused, what is made later has another number: then the FORGETs are of nodes that are still linked, or aren't there."""
+    return serve_each(folders(), 1, "--whole")
 
 
 def try_a_board_of_thousands():

@@ -12,8 +12,8 @@ from tests import fuse
 from tests import tries
 from tests.fuse import (
     BATCH_FORGET, BODIES, CREATE, DESTROY, EAGAIN, EBADF, EINTR, EINVAL, ENAMETOOLONG, ENOENT, ENOSYS, EPROTO, FLUSH, FORGET, GETATTR, GETLK, INIT,
-    INTERRUPT, LAST, LAST_BYTE, LOOKUP, NO_LOCK, NO_REPLY, OPEN, READ_LOCK, RELEASE, SETLK, SETLKW, UNLINK, WRITE_LOCK, attr_reply, create, create_reply,
-    destroy, entry_reply, getattr_, interrupt, lock_reply, lookup, message, release, reply, unique_of)
+    INTERRUPT, LAST, LAST_BYTE, LOOKUP, NO_LOCK, NO_REPLY, OPEN, READ_LOCK, RELEASE, SETLK, SETLKW, UNLINK, WHOLE_BODIES, WRITE_LOCK, attr_reply, create,
+    create_reply, destroy, entry_reply, getattr_, interrupt, lock_reply, lookup, message, release, reply, unique_of)
 from tests.serve.kit import FILE, Client, Session, forget_each, is_served, orders_of, stored, trace_of, tracing
 from tests.tries import INIT_REPLY, Server, lock, run
 
@@ -23,7 +23,7 @@ def try_stored_messages():
     found = stored("messages")
     for session in found:
         is_served(session)
-    assert len(found) == 18, len(found)
+    assert len(found) == 22, len(found)
 
 
 # ---- orders
@@ -122,6 +122,8 @@ def before_an_init():
             yield opcode, body, None if opcode in NO_REPLY else EPROTO
     for opcode in *UNKNOWN, DESTROY:
         yield opcode, b"", EPROTO
+    for opcode, (size, _) in WHOLE_BODIES.items():
+        yield opcode, bytes(size) + b"a\0", EPROTO
     for body in b"", bytes(15), struct.pack("<III", 7, 31, 0):
         yield INIT, body, EINVAL
     for major, minor in (6, 31), (0, 0), (7, 30), (7, 0):
@@ -135,6 +137,8 @@ def after_an_init():
         yield INIT, fuse.init_body()[:size].ljust(size, b"\0"), EPROTO
     yield from ((opcode, bytes(opcode % 50), ENOSYS) for opcode in UNKNOWN)
     yield from ((opcode, bytes(size), ENOSYS) for opcode in (0, 4, 15, 34, 43, 2**32 - 1) for size in (0, 16, 8152))
+    for opcode, (size, _) in WHOLE_BODIES.items():
+        yield from ((opcode, bytes(size) + it, ENOSYS) for it in (b"", b"\0", b"a\0", b"a", b"a" * 255 + b"\0", b"a" * 256 + b"\0"))
     for opcode, (size, named) in BODIES.items():
         if named:
             names = [b"a", b"a\0b\0", b"a\0\0", b"\0\0", b"a" * 257, b"a" * 20 + b"\0" + b"a" * 235 + b"\0"]

@@ -38,9 +38,10 @@ ORDERS = {
     "release": (fuse.RELEASE, lambda fh, drop, owner: fuse.release_body(fh, owner, fuse.RELEASE_FLOCK_UNLOCK * drop)),
     "getlk": (GETLK, fuse.lock_body), "setlk": (SETLK, fuse.lock_body), "setlkw": (SETLKW, fuse.lock_body),
     "create": (fuse.CREATE, lambda excl, mode, name: fuse.create_body(name, fuse.S_IFREG | mode, fuse.O_EXCL * excl)),
-    "interrupt": (fuse.INTERRUPT, fuse.interrupt_body),
+    "interrupt": (fuse.INTERRUPT, fuse.interrupt_body), "rmdir": (fuse.RMDIR, fuse.name_body),
+    "mknod": (fuse.MKNOD, lambda mode, name: fuse.mknod_body(name, mode)), "mkdir": (fuse.MKDIR, lambda mode, name: fuse.mkdir_body(name, mode)),
 }
-NAMED = "lookup", "unlink", "create"
+NAMED = "lookup", "unlink", "create", "mknod", "mkdir", "rmdir"
 REPLIES = {"err": reply, "entry": fuse.entry_reply, "attr": attr_reply, "open": fuse.open_reply, "made": fuse.create_reply, "lock": lock_reply}
 
 

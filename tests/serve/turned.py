@@ -7,7 +7,7 @@ import re
 import sys
 from concurrent.futures import ThreadPoolExecutor
 
-from tests import tries
+from tests import fuse, tries
 from tests.tries import INIT, cases, marked, replies, run, text_of
 
 FAULTS = re.compile(r"(cut|bad length \d+)\n")
@@ -21,16 +21,22 @@ def sessions():
     return found
 
 
+def whole():
+    """The messages of a whole session with folders and lists."""
+    return INIT + b"".join([fuse.mkdir(2, b"d"), fuse.mknod(3, b"f"), fuse.readdir(4), fuse.readdir(5, node=2), fuse.statfs(6), fuse.rmdir(7, b"d"),
+                            fuse.rmdir(8, b"f"), fuse.readdir(9, 2)])
+
+
 def changed():
-    """Each stream. The INIT is changed in one session alone."""
-    for number, stream in enumerate(sessions()):
+    """Each stream and the options of its session. The INIT is changed in one session alone."""
+    for number, (stream, *options) in enumerate([*((it,) for it in sessions()), (whole(), "--whole")]):
         for at in range(len(INIT) if number else 0, len(stream), STEP):
             for byte in {0, 255, stream[at] ^ 1 << at % 8} - {stream[at]}:
-                yield stream[:at] + bytes([byte]) + stream[at + 1:]
+                yield stream[:at] + bytes([byte]) + stream[at + 1:], options
 
 
-def is_sound(stream):
-    ran = run("bytes", text=stream.hex().encode() + b"\n")
+def is_sound(stream, options):
+    ran = run("bytes", *options, text=stream.hex().encode() + b"\n")
     told = ran.stderr.decode()
     assert (ran.returncode, told) == (0, "") or ran.returncode == 2 and FAULTS.fullmatch(told), (stream.hex(), ran)
     for line in ran.stdout.decode().splitlines():
@@ -39,7 +45,7 @@ def is_sound(stream):
 
 def try_each_byte():
     with ThreadPoolExecutor(4) as pool:
-        count = sum(1 for _ in pool.map(is_sound, changed()))
+        count = sum(1 for _ in pool.map(lambda it: is_sound(*it), changed()))
     return f"{count} streams"
 
 

@@ -1,5 +1,5 @@
-"""Tries whole sessions of the built `lockd`: those of `bytes --whole` and `serve --whole`, which also list the directory, tell its room, and refuse by an
-error of its own what lock files can't do. And that sessions without `--whole` are as they were before there was one.
+"""Tries whole sessions of the built `lockd`: those of `bytes --whole` and `serve --whole`, which also have folders (`folders.py`), list the directory,
+tell its room, and refuse by an error of its own what lock files can't do. And that sessions without `--whole` are as they were before there was one.
 
 Those of before stand in `tests/cases/sessions_before_whole.txt`, with the replies that the program gave then. All other replies are laid out here from
 `fuse.h` and docs/PROTOCOL.md, beside the plain directory of `tests/locks/directory.py`. `tries.py` says how it ends.
@@ -12,9 +12,9 @@ import sys
 from tests import fuse
 from tests import tries
 from tests.fuse import (
-    DESTROY, EFBIG, EINVAL, ENOENT, ENOSYS, ENOTDIR, EOPNOTSUPP, EPERM, EPROTO, LINK, READ, READDIR, RENAME, RENAME2, REPLY_HEADER, SETLK, SETLKW,
-    STATFS, SYMLINK, WRITE, WRITE_LOCK, create, destroy, dirent, error_of, message, opcode_of, readdir, reply, room_reply, sent_again, statfs, unique_of,
-    unlink)
+    DESTROY, EFBIG, EINVAL, ENOENT, ENOSYS, ENOTDIR, EOPNOTSUPP, EPERM, EPROTO, LINK, MKDIR, MKNOD, READ, READDIR, RENAME, RENAME2, REPLY_HEADER, RMDIR, SETLK,
+    SETLKW, STATFS, SYMLINK, WRITE, WRITE_LOCK, create, destroy, dirent, error_of, message, opcode_of, readdir, reply, room_reply, sent_again, statfs,
+    unique_of, unlink)
 from tests.locks.directory import ROOT, Directory, Refused, of_files, of_names, of_nodes, refuse, traced
 from tests.resume.kit import KILLED
 from tests.resume.long import exchange
@@ -24,7 +24,9 @@ from tests.serve.sessions import message_of, reply_of, wait_until_idle
 from tests.tries import INIT, INIT_REPLY, Server, cases, each, run, text_of
 
 # What sessions without --whole don't know.
-WHOLE = READDIR, STATFS, READ, WRITE, RENAME, RENAME2, SYMLINK, LINK
+WHOLE = READDIR, STATFS, READ, WRITE, RENAME, RENAME2, SYMLINK, LINK, MKNOD, MKDIR, RMDIR
+# Those of them that are orders.
+ORDERS = MKNOD, MKDIR, RMDIR
 # The least buffer of a READDIR, which holds an entry of the longest name, and the most bytes of a list.
 LEAST, MOST = 280, 4096
 # Entries that no file has: their nodes, cookies, names and modes.
@@ -35,22 +37,30 @@ FILES = 256
 # ---- a plain directory that is listed
 
 class Listed(Directory):
-    """Each entry has a cookie that is greater than those of the entries before it."""
+    """Each entry has a cookie that is greater than those of the entries before it. `lines` are those of the orders that it took."""
 
-    def entries(self):
-        files = ((node, node + 1, name, mode) for node, (_, name, mode, *_) in sorted(self.nodes.items()) if name is not None)
-        return [*DOTS, *files]
+    def __init__(self, *most):
+        super().__init__(*most)
+        self.lines = []
+
+    def entries(self, node):
+        """Those of the root, or of another folder, which is empty."""
+        if node != ROOT:
+            return [(node, 1, b".", self.nodes[node][2]), DOTS[1]]
+        named = ((number, number + 1, name, mode) for number, (_, name, mode, *_) in sorted(self.nodes.items()) if name is not None)
+        return [*DOTS, *named]
 
     def readdir(self, unique, node=ROOT, cookie=0, size=MOST):
         """The reply: as many entries as have room."""
         try:
-            self.is_in(node)
+            refuse(not self.is_known(node), ENOENT)
+            refuse(node != ROOT and not self.is_folder(node), ENOTDIR)
             refuse(size < LEAST, EINVAL)
         except Refused as error:
             return reply(unique, *error.args)
         body = b""
-        for node, at, name, mode in self.entries():
-            more = dirent(node, at, name, mode)
+        for number, at, name, mode in self.entries(node):
+            more = dirent(number, at, name, mode)
             if at > cookie and len(body + more) > min(size, MOST):
                 break
             body += more if at > cookie else b""
@@ -62,6 +72,7 @@ class Listed(Directory):
     def takes(self, unique, node, op, *words, user=(0, 0)):
         """The message and the reply of an order."""
         asked, told = traced(self, unique, node, user, op, *words)
+        self.lines += asked, told
         return message_of(without_workers(asked)), reply_of(told) if told else b""
 
 
@@ -135,13 +146,15 @@ def try_sessions_without_whole_are_as_before():
 
 
 def try_whole_sessions_answer_all_else_as_before():
-    """A whole session gives the stored replies, but to what no other session knows, once there was an INIT."""
+    """A whole session gives the stored replies, but to what no other session knows, once there was an INIT. Orders that no other session knows are left out,
+    since much comes of them."""
     count = 0
     for session in BEFORE:
-        ran = run("bytes", "--whole", *session.options, text=session.sent.hex().encode() + b"\n")
+        talk = [it for it in session.talk if opcode_of(it[0].ljust(8, b"\0")) not in ORDERS]
+        ran = run("bytes", "--whole", *session.options, text=b"".join(sent for sent, _ in talk).hex().encode() + b"\n")
         found, rest = fuse.cut(bytes.fromhex(ran.stdout.decode().replace("\n", "")))
         assert (rest, ran.stderr.decode(), ran.returncode) == (b"", session.fault, 2 if session.fault else 0), (session.title, ran.stderr)
-        wanted = [(sent, it) for sent, told in session.talk for it in told]
+        wanted = [(sent, it) for sent, told in talk for it in told]
         assert len(found) == len(wanted), (session.title, len(found), len(wanted))
         for came, (sent, told) in zip(found, wanted):
             if opcode_of(sent) in WHOLE and error_of(told) == ENOSYS:
@@ -347,7 +360,7 @@ def try_a_whole_session_beside_locks():
 # ---- random sessions
 
 def random_talk(seed, count, most_nodes, most_files):
-    """So many random messages, and their replies by the plain directory."""
+    """So many random messages and their replies by the plain directory, and the lines of the orders among them."""
     numbers, directory = random.Random(seed), Listed(most_nodes, most_files)
     names = [b"", b".", b"..", b"a/b", *(b"%d" % it + b"n" * (it % 180) for it in range(2 * most_nodes))]
 
@@ -355,8 +368,8 @@ def random_talk(seed, count, most_nodes, most_files):
         if numbers.random() < 0.6:
             cookie = numbers.choice([0, 0, 1, 2, numbers.randrange(directory.next_node + 2), fuse.LAST])
             size, node = numbers.choice([LEAST, 600, MOST, MOST, 2**20, numbers.randrange(6_000)]), ROOT
-            if numbers.random() < 0.1:
-                size, node = MOST, numbers.choice([*directory.nodes, directory.next_node, 0])
+            if numbers.random() < 0.2:
+                node = numbers.choice([*directory.nodes, directory.next_node, 0])
             return readdir(unique, cookie, size, node), directory.readdir(unique, node, cookie, size)
         if numbers.random() < 0.4:
             return statfs(unique, numbers.randrange(4)), directory.statfs(unique)
@@ -366,22 +379,18 @@ def random_talk(seed, count, most_nodes, most_files):
     def order(unique):
         kinds = [of_names, of_names, of_nodes, of_files] if unique < count / 2 else [of_names, of_nodes, of_files, of_files]
         if directory.names and numbers.random() < 0.1:
-            return directory.takes(unique, ROOT, "unlink", numbers.choice([*directory.names]))
+            return directory.takes(unique, ROOT, numbers.choice(["unlink", "rmdir"]), numbers.choice([*directory.names]))
         return directory.takes(unique, *numbers.choice(kinds)(numbers, directory, names), user=(numbers.randrange(3), numbers.randrange(3)))
 
-    return [(whole if numbers.random() < 0.4 else order)(unique) for unique in range(2, 2 + count)]
+    return [(whole if numbers.random() < 0.4 else order)(unique) for unique in range(2, 2 + count)], "".join(directory.lines).encode()
 
 
 def random_session(seed, count, most_nodes, most_files):
     """By `bytes`, and by servers: with one worker, with one since none is said, and with `--resume`. The trace is that of the orders alone, and is legal with
     --whole and without."""
-    talk, limits = random_talk(seed, count, most_nodes, most_files), ["--files", str(most_nodes), "--open", str(most_files)]
+    (talk, lines), limits = random_talk(seed, count, most_nodes, most_files), ["--files", str(most_nodes), "--open", str(most_files)]
     is_answered(talk, *limits)
     wanted = INIT_REPLY + b"".join(told for _, told in talk)
-    plain = Server("--trace", "{file}", *limits)
-    exchange(plain, INIT + b"".join(sent for sent, _ in talk if opcode_of(sent) not in WHOLE))
-    assert plain.ended() == (b"", "", 0)
-    lines = plain.traced()
     for options, workers in (["--trace", "{file}"], 1), (["--trace", "{file}"], None), (["--resume", "{file}"], None):
         server = begun(*options, *limits, workers=workers)
         came = exchange(server, INIT + b"".join(sent for sent, _ in talk))
